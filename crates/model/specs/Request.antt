@@ -1,0 +1,94 @@
+-- What a request holds, its checks 20 to 22 and those of its lists in document 01's order, and what a search needs of an accepted one.
+use Prim.Native.Nat.{ℕ}
+use mathlib.Core.Path.{_≡_}
+use mathlib.Core.Bool.{Bool, not, _&&_}
+use mathlib.Core.List.{List}
+use lib.ListN.{length}
+use lib.Dec.{leb, ltb}
+use Rattle.model.specs.declared.Domain.{Domain}
+use Rattle.model.specs.declared.Hop.{Hop}
+use Rattle.model.specs.declared.Limits.{Limits}
+use Rattle.model.specs.declared.ListKind.the-variants.{Include, Exclude}
+use Rattle.model.specs.declared.Verdict.{Verdict}
+use Rattle.model.specs.declared.Verdict.the-variants.{Pass, Refuse}
+use Rattle.model.specs.Verdict.{refuseIf, _andThen_}
+use Rattle.model.specs.Profile.{Layout, version1, domainCount, profileVerdict, domains, hops}
+use Rattle.model.specs.Subobject.{Subobject, formVerdict, subobjects}
+use Rattle.model.specs.Sequence.{Stop, Reading, refused, good, meaning}
+use Rattle.model.specs.Exclusion.{inForce}
+use Rattle.model.specs.Floats.{inRange}
+
+pub record Request : Type 0 where
+  pub profile : List ℕ
+  pub ingress : ℕ
+  pub source : ℕ
+  pub destination : ℕ
+  pub include : List ℕ
+  pub exclude : List ℕ
+  pub limits : Limits
+
+-- the layout of the request's profile
+abbrev pub layoutOf : Request → Layout
+layoutOf r = version1
+
+-- ---- single checks
+
+-- ingress index too large
+abbrev pub ingressVerdict : List ℕ → ℕ → Verdict
+ingressVerdict profile ingress = refuseIf (leb (domainCount profile) ingress) 20 0
+
+-- float bits out of range; a bound that doesn't count isn't looked at
+abbrev pub limitsVerdict : Limits → Verdict
+limitsVerdict l = refuseIf (not (inRange (l .bandwidth))) 21 0 andThen refuseIf (l .bounded && not (inRange (l .bound))) 21 1
+
+-- a list over 1,024 bytes
+abbrev pub sizeVerdict : List ℕ → ℕ → Verdict
+sizeVerdict list place = refuseIf (ltb 1024 (length list)) 22 place
+
+-- a reading that goes on only where the checks pass
+abbrev pub provided : {A : Type 0} → Verdict → Reading A → Reading A
+provided Pass reading = reading
+provided (Refuse r) reading = refused r
+
+-- ---- the checks of a whole request before 33: profile, 20 to 22, form of the include list, then of the exclude list, meaning of the include list
+
+unfoldable pub requestVerdict : Request → Verdict
+requestVerdict r =
+    profileVerdict (layoutOf r) (r .profile)
+    andThen ingressVerdict (r .profile) (r .ingress)
+    andThen limitsVerdict (r .limits)
+    andThen sizeVerdict (r .include) 0
+    andThen sizeVerdict (r .exclude) 1
+    andThen formVerdict Include (r .include)
+    andThen formVerdict Exclude (r .exclude)
+
+-- the sequence that a request asks for, or its refusal
+unfoldable pub sequenceOf : Request → Reading (List Stop)
+sequenceOf r = provided (requestVerdict r) (meaning (domains (r .profile)) (r .ingress) (r .include))
+
+-- accepted means that no check before 33 refuses
+abbrev pub Accepted : Request → List Stop → Type 0
+Accepted r sequence = sequenceOf r ≡ good sequence
+
+-- ---- what a search needs of an accepted request
+
+pub record Search : Type 0 where
+  pub domains : List Domain
+  pub hops : List Hop
+  pub sequence : List Stop
+  pub exclusions : List Subobject
+  pub source : ℕ
+  pub destination : ℕ
+  pub limits : Limits
+
+unfoldable pub searchOf : Request → List Stop → Search
+searchOf r sequence =
+    record {
+      domains = domains (r .profile);
+      hops = hops (layoutOf r) (r .profile);
+      sequence = sequence;
+      exclusions = inForce (subobjects (r .exclude));
+      source = r .source;
+      destination = r .destination;
+      limits = r .limits;
+    }

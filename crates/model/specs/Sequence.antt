@@ -1,0 +1,154 @@
+-- What an include list means: the sequence of domains and their entry constraints, or the refusal (28 to 32). Document 01, "Include list".
+-- An entry constraint is document 01's "pin": the node by which a path must enter a domain.
+use Prim.Native.Nat.{ℕ, zero, suc}
+use mathlib.Core.Bool.{Bool, true, false, _&&_}
+use mathlib.Core.List.{List, [], _∷_, _++_, map}
+use mathlib.Core.Option.{Option, none, some}
+use lib.ListN.{length, getD, take}
+use lib.Dec.{eqb, leb}
+use Rattle.model.specs.declared.Domain.{Domain}
+use Rattle.model.specs.declared.Refusal.{Refusal}
+use Rattle.model.specs.Lists.{among, countFrom, keep, same}
+use Rattle.model.specs.Subobject.{Area, Named, prefix, system, area, Subobject, subobjects}
+
+-- One domain of a sequence, by its index, with its entry constraint if it has one. A sequence is the list of these, D0 to Dk.
+pub record Stop : Type 0 where
+  pub domain : ℕ
+  pub pin : Option ℕ
+
+-- an entry constraint that waits for the next new domain: the offset of its subobject, and the node
+pub record Waiting : Type 0 where
+  pub offset : ℕ
+  pub node : ℕ
+
+-- how far the reading is: the current AS, the domain one is in, the sequence so far, and the entry constraint that waits
+pub record State : Type 0 where
+  pub asn : ℕ
+  pub here : ℕ
+  pub sequence : List Stop
+  pub waiting : Option Waiting
+
+-- the result of a reading, or the refusal that ends it
+pub data Reading (A : Type 0) : Type 0 where
+  refused : Refusal → Reading A
+  good : A → Reading A
+
+module _ {A B : Type 0} where
+  abbrev pub continue : Reading A → (A → Reading B) → Reading B
+  continue (refused r) f = refused r
+  continue (good a) f = f a
+
+abbrev pub refuse : {A : Type 0} → ℕ → ℕ → Reading A
+refuse n p = refused (record { number = n; place = p })
+
+-- ---- the domains that a subobject can mean, by their indexes
+
+abbrev pub noDomain : Domain
+noDomain = record { asn = 0; kind = 0; length = 0; area = [] }
+
+-- the domain record of an index
+abbrev pub domainOf : List Domain → ℕ → Domain
+domainOf ds d = getD ds d noDomain
+
+-- the area that a domain record holds is the named one
+abbrev pub hasArea : Area → Domain → Bool
+hasArea a d = eqb (d .kind) (a .kind) && same (take (d .length) (d .area)) (a .bytes)
+
+-- the domains of an AS
+unfoldable pub ofSystem : List Domain → ℕ → List ℕ
+ofSystem ds n = keep (λ (d : ℕ). eqb ((domainOf ds d) .asn) n) (countFrom 0 (length ds))
+
+-- the domains of an AS that have this area: in an accepted profile at most one
+unfoldable pub ofArea : List Domain → ℕ → Area → List ℕ
+ofArea ds n a = keep (λ (d : ℕ). eqb ((domainOf ds d) .asn) n && hasArea a (domainOf ds d)) (countFrom 0 (length ds))
+
+-- ---- one subobject after the other
+
+-- the node that waits pins the domain that is entered
+abbrev pub pinOf : Option Waiting → Option ℕ
+pinOf none = none
+pinOf (some w) = some (w .node)
+
+-- a new domain at the end of the sequence
+abbrev pub added : State → ℕ → State
+added st d =
+    record {
+      asn = st .asn;
+      here = d;
+      sequence = st .sequence ++ (record { domain = d; pin = pinOf (st .waiting) } ∷ []);
+      waiting = none;
+    }
+
+-- Naming the domain one is in adds nothing. A domain that comes back is 30; else a seventeenth is 31.
+abbrev pub enterIf : Bool → Bool → Bool → ℕ → State → ℕ → Reading State
+enterIf true back full at st d = good st
+enterIf false true full at st d = refuse 30 at
+enterIf false false true at st d = refuse 31 at
+enterIf false false false at st d = good (added st d)
+
+abbrev pub domainsOf : List Stop → List ℕ
+domainsOf sequence = map (λ (p : Stop). p .domain) sequence
+
+unfoldable pub enter : ℕ → State → ℕ → Reading State
+enter at st d = enterIf (eqb d (st .here)) (among d (domainsOf (st .sequence))) (leb 16 (length (st .sequence))) at st d
+
+-- no such domain is 28; several, as an AS alone can name, are 29
+unfoldable pub name : ℕ → State → List ℕ → Reading State
+name at st [] = refuse 28 at
+name at st (d ∷ []) = enter at st d
+name at st (d ∷ e ∷ rest) = refuse 29 at
+
+abbrev pub withSystem : State → ℕ → State
+withSystem st n = record { asn = n; here = st .here; sequence = st .sequence; waiting = st .waiting }
+
+-- an IPv4 subobject: its node waits for the next new domain; a second while one waits is 32
+abbrev pub wait : ℕ → State → ℕ → Option Waiting → Reading State
+wait at st node (some w) = refuse 32 at
+wait at st node none =
+    good (record { asn = st .asn; here = st .here; sequence = st .sequence; waiting = some (record { offset = at; node = node }) })
+
+abbrev pub isArea : Named → Bool
+isArea (prefix a n) = false
+isArea (system n) = false
+isArea (area a) = true
+
+-- an area subobject comes next
+abbrev pub areaNext : List Subobject → Bool
+areaNext [] = false
+areaNext (s ∷ rest) = isArea (s .names)
+
+-- an AS sets the current AS; followed at once by an area it names no domain by itself, otherwise it names the only domain of that AS
+abbrev pub readSystem : List Domain → ℕ → State → ℕ → Bool → Reading State
+readSystem ds at st n true = good (withSystem st n)
+readSystem ds at st n false = name at (withSystem st n) (ofSystem ds n)
+
+-- an area names the domain of the current AS that has it
+abbrev pub readNamed : List Domain → ℕ → State → Bool → Named → Reading State
+readNamed ds at st next (prefix a n) = wait at st a (st .waiting)
+readNamed ds at st next (system n) = readSystem ds at st n next
+readNamed ds at st next (area a) = name at st (ofArea ds (st .asn) a)
+
+unfoldable pub readOne : List Domain → State → Subobject → Bool → Reading State
+readOne ds st s next = readNamed ds (s .offset) st next (s .names)
+
+-- an entry constraint left over at the end is 32 at its own offset
+abbrev pub finish : State → Option Waiting → Reading (List Stop)
+finish st none = good (st .sequence)
+finish st (some w) = refuse 32 (w .offset)
+
+unfoldable pub readAll : List Domain → List Subobject → State → Reading (List Stop)
+readAll ds [] st = finish st (st .waiting)
+readAll ds (s ∷ rest) st = continue (readOne ds st s (areaNext rest)) (λ (next : State). readAll ds rest next)
+
+-- the reading starts in the ingress domain, with its AS as current
+abbrev pub startIn : List Domain → ℕ → State
+startIn ds d =
+    record {
+      asn = (domainOf ds d) .asn;
+      here = d;
+      sequence = record { domain = d; pin = none } ∷ [];
+      waiting = none;
+    }
+
+unfoldable pub meaning : List Domain → ℕ → List ℕ → Reading (List Stop)
+meaning ds ingress list = readAll ds (subobjects list) (startIn ds ingress)

@@ -1,0 +1,89 @@
+-- A series of calls for first and next, and what it must answer: document 01's "book", here the reference series. Beside it the run that really makes the
+-- calls, each next given the path last written. That the two agree for every accepted request is the law `series-is-book`.
+use Prim.Native.Nat.{ℕ, zero, suc}
+use mathlib.Core.Bool.{Bool, true, false}
+use mathlib.Core.List.{List, [], _∷_}
+use lib.ListN.{length, getD}
+use lib.Dec.{eqb, ltb}
+use Rattle.model.specs.Lists.{over}
+use Rattle.model.specs.Request.{Request}
+use Rattle.model.specs.Path.{Route}
+use Rattle.model.specs.Answers.{Numbers, refused3, plain3}
+use Rattle.model.specs.Calls.{Outcome, nothing, found, first, next}
+
+pub data Kind : Type 0 where
+  firstCall nextCall : Kind
+
+-- a call lends a result buffer of any length and content
+pub record Call : Type 0 where
+  pub kind : Kind
+  pub buffer : List ℕ
+
+-- what a call gives back: all its numbers, and the buffer afterwards
+pub record Reply : Type 0 where
+  pub numbers : Numbers
+  pub buffer : List ℕ
+
+abbrev pub replyTo : Call → Outcome ℕ → Reply
+replyTo c o = record { numbers = o .numbers; buffer = over (o .written) (c .buffer) }
+
+-- ---- the reference series: it has the shortest paths and holds a number p, 0 at the start
+
+-- one answer, and the number afterwards
+pub record Entry : Type 0 where
+  pub outcome : Outcome ℕ
+  pub after : ℕ
+
+abbrev pub unchanged : ℕ → Numbers → Entry
+unchanged p n = record { outcome = nothing n; after = p }
+
+abbrev pub noRoute : Route
+noRoute = record { addresses = []; total = 0 }
+
+-- path i of the listing, counted from 0; then p is i + 1
+abbrev pub hands : List Route → ℕ → Entry
+hands listing i = record { outcome = found (getD listing i noRoute); after = suc i }
+
+abbrev pub refusal : ℕ → Numbers
+refusal n = refused3 (record { number = n; place = 0 })
+
+-- a first: room under k + 2 answers 34; no path answers 1; else path 0
+abbrev pub bookFirst : Bool → Bool → List Route → ℕ → Entry
+bookFirst true empty listing p = unchanged p (refusal 34)
+bookFirst false true listing p = unchanged p (plain3 1)
+bookFirst false false listing p = hands listing 0
+
+-- a next: at p = 0 it answers 33; else room under k + 2 answers 34; p = m answers 2; else path p
+abbrev pub bookNext : Bool → Bool → Bool → List Route → ℕ → Entry
+bookNext true small end listing p = unchanged p (refusal 33)
+bookNext false true end listing p = unchanged p (refusal 34)
+bookNext false false true listing p = unchanged p (plain3 2)
+bookNext false false false listing p = hands listing p
+
+abbrev pub bookEntry : List Route → ℕ → ℕ → Kind → ℕ → Entry
+bookEntry listing needed p firstCall room = bookFirst (ltb room needed) (eqb (length listing) 0) listing p
+bookEntry listing needed p nextCall room = bookNext (eqb p 0) (ltb room needed) (eqb p (length listing)) listing p
+
+-- the replies to a list of calls, from the number p on
+unfoldable pub book : List Route → ℕ → ℕ → List Call → List Reply
+book listing needed p [] = []
+book listing needed p (c ∷ cs) =
+    let e = bookEntry listing needed p (c .kind) (length (c .buffer)) in
+    replyTo c (e .outcome) ∷ book listing needed (e .after) cs
+
+-- ---- the run of the calls themselves: a next is given a copy of the path last written, before any an empty list
+
+abbrev pub callOutcome : Request → List ℕ → Kind → ℕ → Outcome ℕ
+callOutcome r last firstCall room = first r room
+callOutcome r last nextCall room = next r last room
+
+-- the path last written: the new one where the answer is 0
+abbrev pub lastAfter : Bool → List ℕ → List ℕ → List ℕ
+lastAfter true new old = new
+lastAfter false new old = old
+
+unfoldable pub run : Request → List ℕ → List Call → List Reply
+run r last [] = []
+run r last (c ∷ cs) =
+    let o = callOutcome r last (c .kind) (length (c .buffer)) in
+    replyTo c o ∷ run r (lastAfter (eqb (o .numbers .answer) 0) (o .written) last) cs

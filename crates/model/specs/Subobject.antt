@@ -1,0 +1,129 @@
+-- Subobjects and the form of a list of them: document 01, "Subobjects". One definition for include and exclude lists, over the list kind.
+use Prim.Native.Nat.{ℕ, zero, suc, _+_, _-_, _*_, _/_, _%_}
+use mathlib.Core.Bool.{Bool, true, false, not, cond, _&&_, _||_}
+use mathlib.Core.List.{List, [], _∷_}
+use lib.ListN.{length, getD}
+use lib.Dec.{eqb, leb, ltb}
+use Rattle.model.specs.declared.Verdict.{Verdict}
+use Rattle.model.specs.declared.Verdict.the-variants.{Pass, Refuse}
+use Rattle.model.specs.declared.ListKind.{ListKind}
+use Rattle.model.specs.declared.ListKind.the-variants.{Include, Exclude}
+use Rattle.model.specs.Lists.{any}
+use Rattle.model.specs.Bytes.{number, part, allZero}
+use Rattle.model.specs.Verdict.{refuseIf, _andThen_}
+
+-- an area: its kind (1 OSPF, 2 IS-IS) and its bytes, as many as its length
+pub record Area : Type 0 where
+  pub kind : ℕ
+  pub bytes : List ℕ
+
+-- what a subobject names: an address with its prefix length, an AS, an area
+pub data Named : Type 0 where
+  prefix : ℕ → ℕ → Named
+  system : ℕ → Named
+  area : Area → Named
+
+-- a subobject's offset in the list, its top bit (L in an include list, X in an exclude list), and what it names
+pub record Subobject : Type 0 where
+  pub offset : ℕ
+  pub top : Bool
+  pub names : Named
+
+-- ---- the length rule of each type: a fixed length, and for type 7 the area's length rounded up to 4 besides
+
+pub record LengthRule : Type 0 where
+  pub type : ℕ
+  pub fixed : ℕ
+  pub withArea : ℕ
+
+abbrev pub lengthRules : List LengthRule
+lengthRules =
+    record { type = 1; fixed = 8; withArea = 0 }
+    ∷ record { type = 5; fixed = 8; withArea = 0 }
+    ∷ record { type = 6; fixed = 8; withArea = 0 }
+    ∷ record { type = 7; fixed = 4; withArea = 1 }
+    ∷ record { type = 32; fixed = 4; withArea = 0 }
+    ∷ []
+
+abbrev pub roundedUp : ℕ → ℕ
+roundedUp n = (n + 3) / 4 * 4
+
+unfoldable pub known : ℕ → Bool
+known t = any (λ (r : LengthRule). eqb t (r .type)) lengthRules
+
+-- n is the length of a subobject of type t, whose area has length a if it has one
+unfoldable pub lengthFits : ℕ → ℕ → ℕ → Bool
+lengthFits t a n = any (λ (r : LengthRule). eqb t (r .type) && eqb n (r .fixed + r .withArea * roundedUp a)) lengthRules
+
+-- ---- the fields of the subobject at an offset: the top bit and the type, the length byte, the area length of type 7
+
+abbrev pub topAt : List ℕ → ℕ → Bool
+topAt s at = leb 128 (getD s at 0)
+
+abbrev pub typeAt : List ℕ → ℕ → ℕ
+typeAt s at = getD s at 0 % 128
+
+abbrev pub lengthAt : List ℕ → ℕ → ℕ
+lengthAt s at = getD s (at + 1) 0
+
+abbrev pub areaLengthAt : List ℕ → ℕ → ℕ
+areaLengthAt s at = getD s (at + 2) 0
+
+-- L must be 0 in an include list; X may be anything
+abbrev pub topWrong : ListKind → Bool → Bool
+topWrong Include top = top
+topWrong Exclude top = false
+
+-- type 1: in an include list the prefix length is 32; in an exclude list it is at most 32, and the attribute is 1
+abbrev pub prefixWrong : ListKind → List ℕ → ℕ → Bool
+prefixWrong Include s at = not (eqb (getD s (at + 6) 0) 32)
+prefixWrong Exclude s at = ltb 32 (getD s (at + 6) 0) || not (eqb (getD s (at + 7) 0) 1)
+
+-- type 7: the padding after the area is zero
+abbrev pub paddingWrong : List ℕ → ℕ → Bool
+paddingWrong s at = not (allZero (part s (at + 4 + areaLengthAt s at) (lengthAt s at - (4 + areaLengthAt s at))))
+
+-- the form of the subobject at an offset, in document 01's order within a subobject
+unfoldable pub subobjectVerdict : ListKind → List ℕ → ℕ → Verdict
+subobjectVerdict k s at =
+    let t = typeAt s at in
+    refuseIf (ltb (length s) (at + 4)) 23 at
+    andThen refuseIf (not (known t)) 24 at
+    andThen refuseIf (topWrong k (topAt s at)) 27 at
+    andThen refuseIf (eqb t 7 && not (leb 1 (areaLengthAt s at) && leb (areaLengthAt s at) 13)) 26 at
+    andThen refuseIf (not (lengthFits t (areaLengthAt s at) (lengthAt s at))) 25 at
+    andThen refuseIf (ltb (length s) (at + lengthAt s at)) 23 at
+    andThen refuseIf ((eqb t 1 && prefixWrong k s at) || (eqb t 7 && paddingWrong s at)) 26 at
+
+-- what the subobject at an offset names, where its form is right
+unfoldable pub namedAt : List ℕ → ℕ → Named
+namedAt s at =
+    let t = typeAt s at in
+    cond (eqb t 1) (prefix (number 4 s (at + 2)) (getD s (at + 6) 0))
+    (cond (eqb t 5) (system (number 4 s (at + 4)))
+    (cond (eqb t 6) (area (record { kind = 1; bytes = part s (at + 4) 4 }))
+    (cond (eqb t 7) (area (record { kind = 2; bytes = part s (at + 4) (areaLengthAt s at) }))
+    (system (number 2 s (at + 2))))))
+
+abbrev pub subobjectAt : List ℕ → ℕ → Subobject
+subobjectAt s at = record { offset = at; top = topAt s at; names = namedAt s at }
+
+-- ---- a whole list: one subobject after the other, from the start to the end
+
+-- The form of what is left from an offset on. A right subobject has at least 4 bytes, so `fuel`, the length of the list, is enough.
+unfoldable pub formFrom : ℕ → ListKind → List ℕ → ℕ → Verdict
+formFrom zero k s at = Pass
+formFrom (suc fuel) k s at =
+    elim (ltb at (length s)) [ true ↦ subobjectVerdict k s at andThen formFrom fuel k s (at + lengthAt s at) | false ↦ Pass ]
+
+unfoldable pub formVerdict : ListKind → List ℕ → Verdict
+formVerdict k s = formFrom (length s) k s 0
+
+-- the subobjects of a list of right form, from an offset on
+unfoldable pub subobjectsFrom : ℕ → List ℕ → ℕ → List Subobject
+subobjectsFrom zero s at = []
+subobjectsFrom (suc fuel) s at =
+    elim (ltb at (length s)) [ true ↦ subobjectAt s at ∷ subobjectsFrom fuel s (at + lengthAt s at) | false ↦ [] ]
+
+unfoldable pub subobjects : List ℕ → List Subobject
+subobjects s = subobjectsFrom (length s) s 0

@@ -1,0 +1,235 @@
+-- Profile W, the second profile of document 01's examples, and every starred case of its section "Profile W and what it gives": one table of rows
+-- (call, inputs, the whole outcome) and one theorem, that each row holds, computed from the bytes up.
+use Prim.Native.Nat.{ℕ, zero, suc, _+_, _-_, _*_, _/_, _%_, _^_}
+use mathlib.Core.Path.{_≡_, refl}
+use mathlib.Core.Bool.{Bool, true, false}
+use mathlib.Core.List.{List, [], _∷_, _++_, map}
+use mathlib.Core.Option.{Option, none, some}
+use lib.Ieee.{binary32, ofBits, toBits, ofFields, odd, size, span, climb, ofInt, round, isNan}
+use lib.Ieee as Ieee
+use lib.Count.{trailingZeros}
+use Rattle.model.specs.declared.Limits.{Limits}
+use Rattle.model.specs.declared.TreeEntry.{TreeEntry}
+use Rattle.model.specs.Lists.{countFrom, keep, all, any, each, among, allDifferent, sum, least, same, below, insert, different, over}
+use Rattle.model.specs.Bytes.{number, bytesOf, allZero}
+use Rattle.model.specs.Verdict.{inTurn}
+use Rattle.model.specs.Reserved.{inRanges, misplaced}
+use Rattle.model.specs.Profile as Profile
+use Rattle.model.specs.Subobject as Subobject
+use Rattle.model.specs.Sequence.{Stop, ofSystem, ofArea, enter, name, readOne, readAll, meaning}
+use Rattle.model.specs.WrittenList.{writtenFrom, written, stops, unwritable}
+use Rattle.model.specs.Exclusion.{excludedDomain, excludedNode}
+use Rattle.model.specs.Floats.{units, inRange, atLeast, atMost, floatOf}
+use Rattle.model.specs.Request.{Request, requestVerdict, sequenceOf, searchOf}
+use Rattle.model.specs.Path as Path
+use Rattle.model.specs.Tree as Tree
+use Rattle.model.specs.Answers.{Numbers}
+use Rattle.model.specs.Calls.{Outcome, readingOf, readInclude, writeList, buildTree, first, greaterThan, next}
+use Rattle.model.specs.Series.{Call, Reply, firstCall, nextCall, run}
+
+-- ---- the two profiles, a record to a line
+
+-- class 0; the domains 64496, 64497, 64498 of kind 0; the hops SP, SQ; PT, PU, QT, QU; TZ, UZ
+pub profileW : List ℕ
+profileW =
+    (0x44 ∷ 0x53 ∷ 0x50 ∷ 0x00 ∷ 0x01 ∷ 0x00 ∷ 0x00 ∷ 0x03 ∷ 0x00 ∷ 0x08 ∷ 0x00 ∷ 0x00 ∷ [])
+    ++ (0x00 ∷ 0x00 ∷ 0xfb ∷ 0xf0 ∷ 0x00 ∷ 0x00 ∷ 0x00 ∷ 0x00 ∷ 0x00 ∷ 0x00 ∷ 0x00 ∷ 0x00 ∷ 0x00 ∷ 0x00 ∷ 0x00 ∷ 0x00 ∷ 0x00 ∷ 0x00 ∷ 0x00 ∷ 0x00 ∷ [])
+    ++ (0x00 ∷ 0x00 ∷ 0xfb ∷ 0xf1 ∷ 0x00 ∷ 0x00 ∷ 0x00 ∷ 0x00 ∷ 0x00 ∷ 0x00 ∷ 0x00 ∷ 0x00 ∷ 0x00 ∷ 0x00 ∷ 0x00 ∷ 0x00 ∷ 0x00 ∷ 0x00 ∷ 0x00 ∷ 0x00 ∷ [])
+    ++ (0x00 ∷ 0x00 ∷ 0xfb ∷ 0xf2 ∷ 0x00 ∷ 0x00 ∷ 0x00 ∷ 0x00 ∷ 0x00 ∷ 0x00 ∷ 0x00 ∷ 0x00 ∷ 0x00 ∷ 0x00 ∷ 0x00 ∷ 0x00 ∷ 0x00 ∷ 0x00 ∷ 0x00 ∷ 0x00 ∷ [])
+    ++ (0x00 ∷ 0x00 ∷ 0x00 ∷ 0x01 ∷ 0xc0 ∷ 0x00 ∷ 0x02 ∷ 0x01 ∷ 0xc0 ∷ 0x00 ∷ 0x02 ∷ 0x0b ∷ 0x00 ∷ 0x00 ∷ 0x00 ∷ 0x0a ∷ 0x44 ∷ 0x7a ∷ 0x00 ∷ 0x00 ∷ [])
+    ++ (0x00 ∷ 0x00 ∷ 0x00 ∷ 0x01 ∷ 0xc0 ∷ 0x00 ∷ 0x02 ∷ 0x01 ∷ 0xc0 ∷ 0x00 ∷ 0x02 ∷ 0x0c ∷ 0x00 ∷ 0x00 ∷ 0x00 ∷ 0x03 ∷ 0x44 ∷ 0x7a ∷ 0x00 ∷ 0x00 ∷ [])
+    ++ (0x00 ∷ 0x01 ∷ 0x00 ∷ 0x02 ∷ 0xc0 ∷ 0x00 ∷ 0x02 ∷ 0x0b ∷ 0xc0 ∷ 0x00 ∷ 0x02 ∷ 0x15 ∷ 0x00 ∷ 0x00 ∷ 0x00 ∷ 0x03 ∷ 0x44 ∷ 0x7a ∷ 0x00 ∷ 0x00 ∷ [])
+    ++ (0x00 ∷ 0x01 ∷ 0x00 ∷ 0x02 ∷ 0xc0 ∷ 0x00 ∷ 0x02 ∷ 0x0b ∷ 0xc0 ∷ 0x00 ∷ 0x02 ∷ 0x16 ∷ 0x00 ∷ 0x00 ∷ 0x00 ∷ 0x01 ∷ 0x44 ∷ 0x7a ∷ 0x00 ∷ 0x00 ∷ [])
+    ++ (0x00 ∷ 0x01 ∷ 0x00 ∷ 0x02 ∷ 0xc0 ∷ 0x00 ∷ 0x02 ∷ 0x0c ∷ 0xc0 ∷ 0x00 ∷ 0x02 ∷ 0x15 ∷ 0x00 ∷ 0x00 ∷ 0x00 ∷ 0x09 ∷ 0x44 ∷ 0x7a ∷ 0x00 ∷ 0x00 ∷ [])
+    ++ (0x00 ∷ 0x01 ∷ 0x00 ∷ 0x02 ∷ 0xc0 ∷ 0x00 ∷ 0x02 ∷ 0x0c ∷ 0xc0 ∷ 0x00 ∷ 0x02 ∷ 0x16 ∷ 0x00 ∷ 0x00 ∷ 0x00 ∷ 0x08 ∷ 0x42 ∷ 0xc8 ∷ 0x00 ∷ 0x00 ∷ [])
+    ++ (0x00 ∷ 0x02 ∷ 0x00 ∷ 0x02 ∷ 0xc0 ∷ 0x00 ∷ 0x02 ∷ 0x15 ∷ 0xc0 ∷ 0x00 ∷ 0x02 ∷ 0x63 ∷ 0x00 ∷ 0x00 ∷ 0x00 ∷ 0x02 ∷ 0x44 ∷ 0x7a ∷ 0x00 ∷ 0x00 ∷ [])
+    ++ (0x00 ∷ 0x02 ∷ 0x00 ∷ 0x02 ∷ 0xc0 ∷ 0x00 ∷ 0x02 ∷ 0x16 ∷ 0xc0 ∷ 0x00 ∷ 0x02 ∷ 0x63 ∷ 0x00 ∷ 0x00 ∷ 0x00 ∷ 0x03 ∷ 0x44 ∷ 0x7a ∷ 0x00 ∷ 0x00 ∷ [])
+
+-- 64500 area 0, 64501 areas 0 and 4, OSPF; no hops
+pub profileOspf : List ℕ
+profileOspf =
+    (0x44 ∷ 0x53 ∷ 0x50 ∷ 0x00 ∷ 0x01 ∷ 0x00 ∷ 0x00 ∷ 0x03 ∷ 0x00 ∷ 0x00 ∷ 0x00 ∷ 0x00 ∷ [])
+    ++ (0x00 ∷ 0x00 ∷ 0xfb ∷ 0xf4 ∷ 0x01 ∷ 0x04 ∷ 0x00 ∷ 0x00 ∷ 0x00 ∷ 0x00 ∷ 0x00 ∷ 0x00 ∷ 0x00 ∷ 0x00 ∷ 0x00 ∷ 0x00 ∷ 0x00 ∷ 0x00 ∷ 0x00 ∷ 0x00 ∷ [])
+    ++ (0x00 ∷ 0x00 ∷ 0xfb ∷ 0xf5 ∷ 0x01 ∷ 0x04 ∷ 0x00 ∷ 0x00 ∷ 0x00 ∷ 0x00 ∷ 0x00 ∷ 0x00 ∷ 0x00 ∷ 0x00 ∷ 0x00 ∷ 0x00 ∷ 0x00 ∷ 0x00 ∷ 0x00 ∷ 0x00 ∷ [])
+    ++ (0x00 ∷ 0x00 ∷ 0xfb ∷ 0xf5 ∷ 0x01 ∷ 0x04 ∷ 0x00 ∷ 0x00 ∷ 0x00 ∷ 0x04 ∷ 0x00 ∷ 0x00 ∷ 0x00 ∷ 0x00 ∷ 0x00 ∷ 0x00 ∷ 0x00 ∷ 0x00 ∷ 0x00 ∷ 0x00 ∷ [])
+
+-- 192.0.2.1, .11, .12, .21, .22, .99
+abbrev S : ℕ
+S = 0xc0000201
+
+abbrev P : ℕ
+P = 0xc000020b
+
+abbrev Q : ℕ
+Q = 0xc000020c
+
+abbrev T : ℕ
+T = 0xc0000215
+
+abbrev U : ℕ
+U = 0xc0000216
+
+abbrev Z : ℕ
+Z = 0xc0000263
+
+-- ---- requests on W: ingress 0, S to Z, bandwidth 100.0, no bound and an empty exclude list unless said
+
+toEnd : List ℕ
+toEnd = 0x20 ∷ 0x04 ∷ 0xfb ∷ 0xf1 ∷ 0x20 ∷ 0x04 ∷ 0xfb ∷ 0xf2 ∷ []
+
+toEnd5 : List ℕ
+toEnd5 = 0x05 ∷ 0x08 ∷ 0x00 ∷ 0x00 ∷ 0x00 ∷ 0x00 ∷ 0xfb ∷ 0xf1 ∷ 0x05 ∷ 0x08 ∷ 0x00 ∷ 0x00 ∷ 0x00 ∷ 0x00 ∷ 0xfb ∷ 0xf2 ∷ []
+
+-- U pinned before 64498
+throughU : List ℕ
+throughU = 0x20 ∷ 0x04 ∷ 0xfb ∷ 0xf1 ∷ 0x01 ∷ 0x08 ∷ 0xc0 ∷ 0x00 ∷ 0x02 ∷ 0x16 ∷ 0x20 ∷ 0x00 ∷ 0x20 ∷ 0x04 ∷ 0xfb ∷ 0xf2 ∷ []
+
+-- 64497, then 64496 again
+back : List ℕ
+back = 0x05 ∷ 0x08 ∷ 0x00 ∷ 0x00 ∷ 0x00 ∷ 0x00 ∷ 0xfb ∷ 0xf1 ∷ 0x05 ∷ 0x08 ∷ 0x00 ∷ 0x00 ∷ 0x00 ∷ 0x00 ∷ 0xfb ∷ 0xf0 ∷ []
+
+withoutQ : List ℕ
+withoutQ = 0x01 ∷ 0x08 ∷ 0xc0 ∷ 0x00 ∷ 0x02 ∷ 0x0c ∷ 0x20 ∷ 0x01 ∷ []
+
+plain : Limits
+plain = record { bandwidth = ofBits binary32 0x42c80000; bound = ofBits binary32 0; bounded = false }
+
+bounded : ℕ → Limits
+bounded bits = record { bandwidth = ofBits binary32 0x42c80000; bound = ofBits binary32 bits; bounded = true }
+
+above100 : Limits
+above100 = record { bandwidth = ofBits binary32 0x42c80001; bound = ofBits binary32 0; bounded = false }
+
+onW : List ℕ → List ℕ → Limits → Request
+onW include exclude limits =
+    record { profile = profileW; ingress = 0; source = S; destination = Z; include = include; exclude = exclude; limits = limits }
+
+-- ---- lists on the second profile, ingress 64500 area 0
+
+short : List ℕ
+short = 0x05 ∷ 0x08 ∷ 0x00 ∷ 0x00 ∷ 0x00 ∷ 0x00 ∷ 0xfb ∷ 0xf5 ∷ 0x06 ∷ 0x08 ∷ 0x00 ∷ 0x00 ∷ 0x00 ∷ 0x00 ∷ 0x00 ∷ 0x00 ∷ 0x06 ∷ 0x08 ∷ 0x00 ∷ 0x00 ∷ 0x00 ∷ 0x00 ∷ 0x00 ∷ 0x04 ∷ []
+
+whole : List ℕ
+whole = 0x05 ∷ 0x08 ∷ 0x00 ∷ 0x00 ∷ 0x00 ∷ 0x00 ∷ 0xfb ∷ 0xf4 ∷ 0x06 ∷ 0x08 ∷ 0x00 ∷ 0x00 ∷ 0x00 ∷ 0x00 ∷ 0x00 ∷ 0x00 ∷ 0x05 ∷ 0x08 ∷ 0x00 ∷ 0x00 ∷ 0x00 ∷ 0x00 ∷ 0xfb ∷ 0xf5 ∷ 0x06 ∷ 0x08 ∷ 0x00 ∷ 0x00 ∷ 0x00 ∷ 0x00 ∷ 0x00 ∷ 0x00 ∷ 0x06 ∷ 0x08 ∷ 0x00 ∷ 0x00 ∷ 0x00 ∷ 0x00 ∷ 0x00 ∷ 0x04 ∷ []
+
+alone : List ℕ
+alone = 0x05 ∷ 0x08 ∷ 0x00 ∷ 0x00 ∷ 0x00 ∷ 0x00 ∷ 0xfb ∷ 0xf5 ∷ []
+
+-- ---- the rows
+
+pub data Case : Type 0 where
+  reading : List ℕ → ℕ → List ℕ → ℕ → Case
+  writing : List ℕ → List ℕ → List ℕ → List ℕ → ℕ → Case
+  building : Request → ℕ → Case
+  starting : Request → ℕ → Case
+  following : Request → List ℕ → ℕ → Case
+  series : Request → List Call → Case
+
+pub data Result : Type 0 where
+  stopsRead : Outcome Stop → Result
+  bytesWritten : Outcome ℕ → Result
+  entriesBuilt : Outcome TreeEntry → Result
+  path : Outcome ℕ → Result
+  replies : List Reply → Result
+
+pub outcome : Case → Result
+outcome (reading profile ingress list room) = stopsRead (readInclude profile ingress list room)
+outcome (writing profile indexes marks nodes room) = bytesWritten (writeList profile indexes marks nodes room)
+outcome (building r room) = entriesBuilt (buildTree r room)
+outcome (starting r room) = path (first r room)
+outcome (following r given room) = path (next r given room)
+outcome (series r calls) = replies (run r [] calls)
+
+pub record Row : Type 0 where
+  pub case : Case
+  pub expected : Result
+
+-- answer, place and the other numbers
+numbers : ℕ → List ℕ → Numbers
+numbers n others = record { answer = n; others = others }
+
+through : ℕ → Stop
+through d = record { domain = d; pin = none }
+
+at : ℕ → ℕ → ℕ → TreeEntry
+at level node cost = record { level = level; address = record { 0 = node }; reachable = true; cost = cost }
+
+-- a path of total 14, whose float has the bits 41600000
+costs14 : List ℕ → Outcome ℕ
+costs14 p = record { numbers = numbers 0 (0 ∷ 14 ∷ 0x41600000 ∷ []); written = p }
+
+treeW : Outcome TreeEntry
+treeW = record { numbers = numbers 0 (0 ∷ 5 ∷ 8 ∷ []); written = at 0 S 14 ∷ at 1 P 4 ∷ at 1 Q 11 ∷ at 2 T 2 ∷ at 2 U 3 ∷ [] }
+
+-- a first and then nexts, each with five places to write to
+calls : ℕ → List Call
+calls n = record { kind = firstCall; buffer = 7 ∷ 7 ∷ 7 ∷ 7 ∷ 7 ∷ [] } ∷ nexts n
+  where
+    nexts : ℕ → List Call
+    nexts zero = []
+    nexts (suc n) = record { kind = nextCall; buffer = 7 ∷ 7 ∷ 7 ∷ 7 ∷ 7 ∷ [] } ∷ nexts n
+
+-- a path of total 14 in the buffer, the rest of which is untouched; the end, and no path, with the buffer as it was
+gives : List ℕ → Reply
+gives p = record { numbers = numbers 0 (0 ∷ 14 ∷ 0x41600000 ∷ []); buffer = p ++ (7 ∷ []) }
+
+ends : Reply
+ends = record { numbers = numbers 2 (0 ∷ 0 ∷ 0 ∷ []); buffer = 7 ∷ 7 ∷ 7 ∷ 7 ∷ 7 ∷ [] }
+
+SPUZ : List ℕ
+SPUZ = S ∷ P ∷ U ∷ Z ∷ []
+
+SPTZ : List ℕ
+SPTZ = S ∷ P ∷ T ∷ Z ∷ []
+
+SQTZ : List ℕ
+SQTZ = S ∷ Q ∷ T ∷ Z ∷ []
+
+SQUZ : List ℕ
+SQUZ = S ∷ Q ∷ U ∷ Z ∷ []
+
+three : Outcome Stop
+three = record { numbers = numbers 0 (0 ∷ 3 ∷ []); written = through 0 ∷ through 1 ∷ through 2 ∷ [] }
+
+no-path : Outcome ℕ
+no-path = record { numbers = numbers 1 (0 ∷ 0 ∷ 0 ∷ []); written = [] }
+
+row : Case → Result → Row
+row c x = record { case = c; expected = x }
+
+pub table : List Row
+table =
+    -- the include list's tree, and the same of its longer form
+    row (building (onW toEnd [] plain) 5) (entriesBuilt treeW)
+    ∷ row (reading profileW 0 toEnd 3) (stopsRead three)
+    ∷ row (reading profileW 0 toEnd5 3) (stopsRead three)
+    ∷ row (building (onW toEnd5 [] plain) 5) (entriesBuilt treeW)
+    -- the three paths, then the end
+    ∷ row (series (onW toEnd [] plain) (calls 3)) (replies (gives SPUZ ∷ gives SQTZ ∷ gives SQUZ ∷ ends ∷ []))
+    -- after SPTZ, which is no shortest path
+    ∷ row (following (onW toEnd [] plain) SPTZ 4) (path (costs14 SPUZ))
+    -- bound 14.0 and 13.0
+    ∷ row (series (onW toEnd [] (bounded 0x41600000)) (calls 3)) (replies (gives SPUZ ∷ gives SQTZ ∷ gives SQUZ ∷ ends ∷ []))
+    ∷ row (starting (onW toEnd [] (bounded 0x41500000)) 4) (path no-path)
+    -- bandwidth just above 100.0
+    ∷ row (series (onW toEnd [] above100) (calls 2)) (replies (gives SPUZ ∷ gives SQTZ ∷ ends ∷ []))
+    -- Q excluded
+    ∷ row (series (onW toEnd withoutQ plain) (calls 1)) (replies (gives SPUZ ∷ ends ∷ []))
+    -- U pinned before 64498
+    ∷ row (series (onW throughU [] plain) (calls 2)) (replies (gives SPUZ ∷ gives SQUZ ∷ ends ∷ []))
+    -- the empty include list
+    ∷ row (starting (onW [] [] plain) 2) (path no-path)
+    ∷ row (building (onW [] [] plain) 1) (entriesBuilt (record { numbers = numbers 0 (0 ∷ 1 ∷ 0 ∷ []); written = record { level = 0; address = record { 0 = S }; reachable = false; cost = 0 } ∷ [] }))
+    -- 64496 comes back
+    ∷ row (reading profileW 0 back 3) (stopsRead (record { numbers = numbers 30 (8 ∷ 0 ∷ []); written = [] }))
+    -- one sequence, read in two ways and written in one; 64501 alone
+    ∷ row (reading profileOspf 0 short 3) (stopsRead three)
+    ∷ row (reading profileOspf 0 whole 3) (stopsRead three)
+    ∷ row (writing profileOspf (0 ∷ 1 ∷ 2 ∷ []) (0 ∷ 0 ∷ 0 ∷ []) (0 ∷ 0 ∷ 0 ∷ []) 40) (bytesWritten (record { numbers = numbers 0 (0 ∷ 40 ∷ []); written = whole }))
+    ∷ row (reading profileOspf 0 alone 3) (stopsRead (record { numbers = numbers 29 (0 ∷ 0 ∷ []); written = [] }))
+    ∷ []
+
+-- every row holds
+pub worked-cases : map (λ (r : Row). outcome (r .case)) table ≡ map (λ (r : Row). r .expected) table
+unfolding profileW profileOspf toEnd toEnd5 throughU back withoutQ plain bounded above100 onW short whole alone outcome numbers through at costs14 treeW calls gives ends SPUZ SPTZ SQTZ SQUZ three no-path row table countFrom keep all any each among allDifferent sum least same below insert different over number bytesOf allZero inTurn inRanges misplaced Profile.headerWrong Profile.countsWrong Profile.lengthWrong Profile.headerVerdict Profile.domainAt Profile.domains Profile.areaLengthFits Profile.domainMalformed Profile.domainMisordered Profile.domainVerdict Profile.hopAt Profile.hops Profile.hopMalformed Profile.hopMisordered Profile.hopVerdict Profile.entryNodes Profile.crowded Profile.crowdedVerdict Profile.profileVerdict Subobject.known Subobject.lengthFits Subobject.subobjectVerdict Subobject.namedAt Subobject.formFrom Subobject.formVerdict Subobject.subobjectsFrom Subobject.subobjects ofSystem ofArea enter name readOne readAll meaning writtenFrom written stops unwritable excludedDomain excludedNode units inRange atLeast atMost floatOf requestVerdict sequenceOf searchOf Path.legs Path.keepsBound Path.allowed Path.hopsFrom Path.suffixes Path.paths Path.admissible Path.cheapest Path.shortestPaths Tree.entriesAt Tree.entry Tree.tree Tree.tally readingOf readInclude writeList buildTree first greaterThan next run ofBits toBits ofFields odd size span climb ofInt round isNan Ieee.units trailingZeros
+worked-cases = refl
