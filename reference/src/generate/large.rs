@@ -1,0 +1,105 @@
+//! The largest profile, and one with as many equal shortest paths as the
+//! limits allow. Both have a sequence of 16 domains to cross.
+
+use super::draft::{domain_record, Draft, Hops};
+use super::lists::write_route;
+use super::random::Random;
+use super::requests::RequestCase;
+use crate::profile::{Hop, IS_IS, OSPF};
+
+/// Where the paths through both profiles start and end.
+const SOURCE: u32 = 0xC000_0201;
+const DESTINATION: u32 = 0xC000_02FE;
+
+/// The hop bandwidth of both profiles, 1000.0.
+const BANDWIDTH: u32 = 0x447A_0000;
+
+/// 64 domains, 3,000 hops: 16 entry nodes for each of D1 to D15, with 212 of
+/// the 256 possible hops between one set and the next.
+pub fn largest(random: &mut Random) -> Draft {
+    let mut hops = Hops::default();
+    for i in 0..16 {
+        let pairs = if i == 0 || i == 15 { 16 } else { 212 };
+        let goal = hops.len() + pairs;
+        // Every node is left by one hop at least and reached by one.
+        for j in 0..16 {
+            hops.add(crossing(random, i, j, j));
+        }
+        while hops.len() < goal {
+            let (j, l) = (random.below(16), random.below(16));
+            hops.add(crossing(random, i, j, l));
+        }
+    }
+    Draft { live: false, domains: two_areas_each(), hops: hops.records() }
+}
+
+/// A hop of step `i`, from node `j` of domain `i` to node `l` of the next.
+fn crossing(random: &mut Random, i: usize, j: usize, l: usize) -> Hop {
+    let cost = random.below(4) as u32;
+    step_hop(i, j, l, cost)
+}
+
+fn step_hop(i: usize, j: usize, l: usize, cost: u32) -> Hop {
+    let u = if i == 0 { SOURCE } else { entry_node(i, j) };
+    let v = if i == 15 { DESTINATION } else { entry_node(i + 1, l) };
+    Hop { from: i, to: (i + 1).min(15), u, v, cost, bandwidth: BANDWIDTH }
+}
+
+/// Node `j` of domain `i`, in 198.51.100.0/24 (16 sets of 16).
+fn entry_node(i: usize, j: usize) -> u32 {
+    0xC633_6400 + (i * 16 + j) as u32
+}
+
+/// All 32 reserved AS numbers, each with one OSPF and one IS-IS area.
+fn two_areas_each() -> Vec<[u8; 20]> {
+    (64_496..64_512)
+        .chain(65_536..65_552)
+        .flat_map(|as_number| {
+            let is_is = [0x49, 0, 1, 0, 0, 0, 0, 0, 0, 0, 0, 0, 7];
+            [domain_record(as_number, OSPF, &[0; 4]), domain_record(as_number, IS_IS, &is_is)]
+        })
+        .collect()
+}
+
+/// How many entry nodes each of D1 to D15 has in the profile of equal paths.
+/// 16 for each would make 2^60 paths but take 3,616 hops; these take exactly
+/// 3,000 and make 16^2 x 15^6 x 14^7 paths, a little above 2^58.
+pub const EQUAL_PATHS_WIDTHS: [usize; 15] =
+    [16, 14, 15, 14, 15, 14, 15, 14, 15, 14, 15, 14, 15, 14, 16];
+
+/// 16 domains, every hop of cost 1, every path a shortest path.
+pub fn equal_paths() -> Draft {
+    let mut hops = Hops::default();
+    for i in 0..16 {
+        let here = if i == 0 { 1 } else { EQUAL_PATHS_WIDTHS[i - 1] };
+        let there = if i == 15 { 1 } else { EQUAL_PATHS_WIDTHS[i] };
+        for j in 0..here {
+            for l in 0..there {
+                hops.add(step_hop(i, j, l, 1));
+            }
+        }
+    }
+    let domains = (64_496..64_512).map(|as_number| domain_record(as_number, 0, &[])).collect();
+    Draft { live: false, domains, hops: hops.records() }
+}
+
+/// The request that crosses all 16 domains of either profile.
+pub fn crossing_request(draft: &Draft) -> RequestCase {
+    let route: Vec<usize> = (0..16).collect();
+    RequestCase {
+        profile: draft.encode(),
+        ingress: 0,
+        source: SOURCE,
+        destination: DESTINATION,
+        include: write_route(draft, &route),
+        exclude: Vec::new(),
+        bandwidth_bits: BANDWIDTH,
+        bound_counts: false,
+        bound_bits: 0,
+        path: vec![0; 17],
+        level: vec![0; 241],
+        address: vec![0; 241],
+        reachable: vec![0; 241],
+        cost: vec![0; 241],
+    }
+}

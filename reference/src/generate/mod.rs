@@ -1,0 +1,173 @@
+//! Cases made from a seed: the same seed always makes the same case. Every
+//! case brings its own buffers, filled with anything, so that two programs
+//! can be given equal arguments and compared on everything they leave.
+
+mod damage;
+mod draft;
+mod large;
+mod list_damage;
+mod lists;
+mod random;
+mod requests;
+mod shapes;
+mod writing;
+
+pub use damage::Planned;
+pub use large::EQUAL_PATHS_WIDTHS;
+pub use random::Random;
+pub use requests::{NextCase, RequestCase, SeriesCase};
+pub use writing::WriteCase;
+
+use lists::Include;
+
+/// What `read_include` takes, with the buffers to lend.
+#[derive(Clone, Debug)]
+pub struct IncludeCase {
+    pub profile: Vec<u8>,
+    pub ingress: u16,
+    pub include: Vec<u8>,
+    pub domains: Vec<u16>,
+    pub pinned: Vec<u8>,
+    pub pins: Vec<u32>,
+}
+
+/// A profile for `check_profile`: valid, with one thing wrong, with more, or
+/// no profile at all.
+pub fn profile_case(seed: u64) -> Vec<u8> {
+    let random = &mut Random::new(seed, 1);
+    match random.below(20) {
+        0..=5 => shapes::valid(random).encode(),
+        6..=15 => damage::planned(random).bytes,
+        16 => {
+            let length = random.pick(&[0, 11, 12, 13, 200, 61_292, 70_000]);
+            random.bytes(length)
+        }
+        _ => scratched(random),
+    }
+}
+
+/// One to three bytes changed anywhere, perhaps on top of other damage.
+fn scratched(random: &mut Random) -> Vec<u8> {
+    let mut bytes = match random.chance(2, 3) {
+        true => shapes::valid(random).encode(),
+        false => damage::planned(random).bytes,
+    };
+    for _ in 0..random.between(1, 3) {
+        if !bytes.is_empty() {
+            let at = random.below(bytes.len());
+            bytes[at] = random.byte();
+        }
+    }
+    bytes
+}
+
+/// A valid profile of any shape.
+pub fn valid_profile(seed: u64) -> Vec<u8> {
+    shapes::valid(&mut Random::new(seed, 2)).encode()
+}
+
+/// A profile with exactly one thing wrong and the answer that belongs to it.
+pub fn damaged_profile(seed: u64) -> Planned {
+    damage::planned(&mut Random::new(seed, 3))
+}
+
+/// An include list to be read on its own.
+pub fn include_case(seed: u64) -> IncludeCase {
+    let random = &mut Random::new(seed, 4);
+    let draft = shapes::valid(random);
+    let ingress = random.below(draft.domains.len());
+    let include = list_damage::include_list(random, &mut Include::new(&draft, ingress), ingress);
+    let mut case = IncludeCase {
+        profile: draft.encode(),
+        ingress: ingress as u16,
+        include,
+        domains: Vec::new(),
+        pinned: Vec::new(),
+        pins: Vec::new(),
+    };
+    match random.below(12) {
+        0..=1 => case.profile = damage::planned(random).bytes,
+        2 => case.ingress = requests::out_of_range_ingress(random, &draft),
+        _ => {}
+    }
+    lend_include(random, &mut case);
+    case
+}
+
+/// Buffers around the size that is needed; sometimes one is short.
+fn lend_include(random: &mut Random, case: &mut IncludeCase) {
+    let read = crate::request::accept_include(&case.profile, case.ingress, &case.include);
+    let needed = read.map_or(16, |stops| stops.len());
+    let common = random.capacity(needed);
+    let mut sizes = [common; 3];
+    if random.chance(1, 6) {
+        sizes[random.below(3)] = random.capacity(needed);
+    }
+    case.domains = random.words(sizes[0]).iter().map(|&w| w as u16).collect();
+    case.pinned = random.bytes(sizes[1]);
+    case.pins = random.words(sizes[2]);
+}
+
+/// A sequence for `write_list`, refused ones included.
+pub fn write_case(seed: u64) -> WriteCase {
+    writing::any(&mut Random::new(seed, 5))
+}
+
+/// A sequence that `write_list` takes, with room for any.
+pub fn valid_write_case(seed: u64) -> WriteCase {
+    writing::valid(&mut Random::new(seed, 6))
+}
+
+/// A request for `tree` and `first`, refused ones included.
+pub fn request_case(seed: u64) -> RequestCase {
+    requests::any(&mut Random::new(seed, 7))
+}
+
+/// A request that is accepted, on a profile small enough to list every path.
+pub fn small_request_case(seed: u64) -> RequestCase {
+    requests::small(&mut Random::new(seed, 8))
+}
+
+/// A request and a given list for `next`, refused ones included.
+pub fn next_case(seed: u64) -> NextCase {
+    let random = &mut Random::new(seed, 9);
+    let request = requests::any(random);
+    requests::with_given(random, request)
+}
+
+/// A given list for a request that is small enough to list every path.
+pub fn small_next_case(seed: u64) -> NextCase {
+    let random = &mut Random::new(seed, 10);
+    let request = requests::small(random);
+    requests::with_given(random, request)
+}
+
+/// A series of calls on one request, sometimes a refused one.
+pub fn series_case(seed: u64) -> SeriesCase {
+    let random = &mut Random::new(seed, 11);
+    let request = match random.chance(1, 2) {
+        true => requests::any(random),
+        false => requests::small(random),
+    };
+    requests::with_calls(random, request)
+}
+
+/// 64 domains, 3,000 hops, 61,292 bytes.
+pub fn largest_profile(seed: u64) -> Vec<u8> {
+    large::largest(&mut Random::new(seed, 12)).encode()
+}
+
+/// The request that crosses 16 domains of `largest_profile(seed)`.
+pub fn largest_request(seed: u64) -> RequestCase {
+    large::crossing_request(&large::largest(&mut Random::new(seed, 12)))
+}
+
+/// As many equal shortest paths as the limits allow, a little above 2^58.
+pub fn equal_paths_profile() -> Vec<u8> {
+    large::equal_paths().encode()
+}
+
+/// The request that has them all.
+pub fn equal_paths_request() -> RequestCase {
+    large::crossing_request(&large::equal_paths())
+}

@@ -1,0 +1,36 @@
+//! A path calculator written from document 01 alone, to be compared case by
+//! case with the proved library.
+//!
+//! The six calls take and give what the C interface takes and gives, on
+//! slices: each returns document 01's number and stores the other numbers in
+//! `numbers`. On every number but 0 the place is stored, every other number is
+//! 0, and no lent buffer is touched.
+//!
+//! `plain` finds the same answers by listing every path; `series` holds a run
+//! of calls against document 01's book; `generate` makes cases from a seed.
+
+mod calls;
+mod check;
+mod exclusion;
+mod floats;
+mod outcome;
+mod paths;
+pub mod plain;
+mod profile;
+mod request;
+mod reserved;
+mod sequence;
+mod subobject;
+mod tree;
+mod writer;
+
+pub mod generate;
+pub mod series;
+
+pub use calls::{check_profile, first, next, read_include, tree, write_list};
+pub use floats::Exact;
+pub use outcome::NotDone;
+pub use paths::ShortestPaths;
+pub use profile::{Domain, Hop, Profile};
+pub use request::{Question, Request};
+pub use series::{series, Call, Outcome};

@@ -1,0 +1,139 @@
+//! The form of a list of subobjects: numbers 23 to 27.
+
+use crate::outcome::NotDone;
+use crate::profile::{u16_at, u32_at, IS_IS, OSPF};
+
+const IPV4: u8 = 1;
+const AS_FOUR_BYTES: u8 = 5;
+const OSPF_AREA: u8 = 6;
+const IS_IS_AREA: u8 = 7;
+const AS_TWO_BYTES: u8 = 32;
+
+/// The only attribute an excluded address may have: it names a node.
+const ATTRIBUTE_NODE: u8 = 1;
+
+/// Which list a subobject stands in: the first bit and type 1 differ.
+#[derive(Clone, Copy, Debug, PartialEq, Eq)]
+pub enum List {
+    Include,
+    Exclude,
+}
+
+#[derive(Clone, Copy, Debug, PartialEq, Eq)]
+pub enum Body<'a> {
+    Address { address: u32, prefix: u8 },
+    AsNumber(u32),
+    Area { kind: u8, area: &'a [u8] },
+}
+
+#[derive(Clone, Copy, Debug, PartialEq, Eq)]
+pub struct Subobject<'a> {
+    pub offset: usize,
+    pub body: Body<'a>,
+}
+
+/// All subobjects of a list, or the first one whose form is wrong.
+pub fn read_form(bytes: &[u8], list: List) -> Result<Vec<Subobject<'_>>, NotDone> {
+    let mut subobjects = Vec::new();
+    let mut walk = Walk { bytes, offset: 0, list };
+    while let Some(subobject) = walk.step()? {
+        subobjects.push(subobject);
+    }
+    Ok(subobjects)
+}
+
+/// A list and the place in it.
+struct Walk<'a> {
+    bytes: &'a [u8],
+    offset: usize,
+    list: List,
+}
+
+impl<'a> Walk<'a> {
+    /// The subobject at the place, which then moves past it.
+    fn step(&mut self) -> Result<Option<Subobject<'a>>, NotDone> {
+        let offset = self.offset;
+        let rest = &self.bytes[offset..];
+        if rest.is_empty() {
+            return Ok(None);
+        }
+        let read = measure(rest, self.list).and_then(|whole| read_body(whole, self.list));
+        match read {
+            Ok((length, body)) => {
+                self.offset += length;
+                Ok(Some(Subobject { offset, body }))
+            }
+            Err(number) => NotDone::at(number, offset),
+        }
+    }
+}
+
+/// The bytes of the subobject that `rest` begins with. The checks come in
+/// document 01's order, which judges the type before the length and a length
+/// that isn't the type's before one that runs past the end.
+fn measure(rest: &[u8], list: List) -> Result<&[u8], u32> {
+    if rest.len() < 4 {
+        return Err(23);
+    }
+    let kind = rest[0] & 0x7F;
+    if !supported(kind) {
+        return Err(24);
+    }
+    if list == List::Include && rest[0] & 0x80 != 0 {
+        return Err(27);
+    }
+    if kind == IS_IS_AREA && !(1..=13).contains(&rest[2]) {
+        return Err(26);
+    }
+    let length = usize::from(rest[1]);
+    if length != length_of(kind, rest[2]) {
+        return Err(25);
+    }
+    rest.get(..length).ok_or(23)
+}
+
+fn supported(kind: u8) -> bool {
+    matches!(kind, IPV4 | AS_FOUR_BYTES | OSPF_AREA | IS_IS_AREA | AS_TWO_BYTES)
+}
+
+/// The whole length of a subobject. `third` is its third byte, which is the
+/// area length of an IS-IS area and means nothing here for the others.
+fn length_of(kind: u8, third: u8) -> usize {
+    match kind {
+        AS_TWO_BYTES => 4,
+        IS_IS_AREA => 4 + usize::from(third).div_ceil(4) * 4,
+        _ => 8,
+    }
+}
+
+/// The body of a subobject whose length is right, and that length.
+fn read_body(whole: &[u8], list: List) -> Result<(usize, Body<'_>), u32> {
+    let body = match whole[0] & 0x7F {
+        IPV4 => read_address(whole, list)?,
+        AS_FOUR_BYTES => Body::AsNumber(u32_at(whole, 4)),
+        AS_TWO_BYTES => Body::AsNumber(u32::from(u16_at(whole, 2))),
+        OSPF_AREA => Body::Area { kind: OSPF, area: &whole[4..8] },
+        _ => read_is_is(whole)?,
+    };
+    Ok((whole.len(), body))
+}
+
+fn read_address(whole: &[u8], list: List) -> Result<Body<'_>, u32> {
+    let (prefix, attribute) = (whole[6], whole[7]);
+    let fits = match list {
+        List::Include => prefix == 32,
+        List::Exclude => prefix <= 32 && attribute == ATTRIBUTE_NODE,
+    };
+    if !fits {
+        return Err(26);
+    }
+    Ok(Body::Address { address: u32_at(whole, 2), prefix })
+}
+
+fn read_is_is(whole: &[u8]) -> Result<Body<'_>, u32> {
+    let (area, padding) = whole[4..].split_at(usize::from(whole[2]));
+    if padding.iter().any(|&b| b != 0) {
+        return Err(26);
+    }
+    Ok(Body::Area { kind: IS_IS, area })
+}
