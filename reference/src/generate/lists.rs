@@ -63,6 +63,8 @@ pub fn any_area(random: &mut Random) -> Piece {
 pub struct Include<'a> {
     pub draft: &'a Draft,
     pub pieces: Vec<Piece>,
+    /// The entry constraint that `follow` put on each domain of the route.
+    pub entries: Vec<Option<u32>>,
     current_as: u32,
     here: usize,
 }
@@ -70,7 +72,8 @@ pub struct Include<'a> {
 impl<'a> Include<'a> {
     pub fn new(draft: &'a Draft, ingress: usize) -> Include<'a> {
         let current_as = draft.domain(ingress).as_number;
-        Include { draft, pieces: Vec::new(), current_as, here: ingress }
+        let entries = vec![None];
+        Include { draft, pieces: Vec::new(), entries, current_as, here: ingress }
     }
 
     /// Names `domain` in one of the ways that are right for it.
@@ -112,9 +115,12 @@ impl<'a> Include<'a> {
             self.name_again(random);
         }
         for pair in route.windows(2) {
+            self.entries.push(None);
             if random.chance(constrained, 6) {
                 let address = entry_node(random, self.draft, pair[0], pair[1]);
                 self.constrain(random, address);
+                self.entries.pop();
+                self.entries.push(Some(address));
                 if random.chance(1, 4) {
                     self.name_again(random);
                 }

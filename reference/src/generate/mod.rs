@@ -6,6 +6,7 @@ mod damage;
 mod draft;
 mod large;
 mod list_damage;
+mod list_plan;
 mod lists;
 mod random;
 mod requests;
@@ -13,6 +14,7 @@ mod shapes;
 mod writing;
 
 pub use damage::Planned;
+pub use list_plan::PlannedInclude;
 pub use large::EQUAL_PATHS_WIDTHS;
 pub use random::Random;
 pub use requests::{NextCase, RequestCase, SeriesCase};
@@ -92,6 +94,11 @@ pub fn include_case(seed: u64) -> IncludeCase {
     }
     lend_include(random, &mut case);
     case
+}
+
+/// An include list on a valid profile, with what reading it must give.
+pub fn planned_include(seed: u64) -> PlannedInclude {
+    list_plan::planned(&mut Random::new(seed, 13))
 }
 
 /// Buffers around the size that is needed; sometimes one is short.

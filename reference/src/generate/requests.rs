@@ -195,7 +195,12 @@ fn bandwidth(random: &mut Random, draft: &Draft) -> u32 {
     if draft.hops.is_empty() || random.chance(2, 3) {
         return 0;
     }
-    let bits = draft.hop(random.below(draft.hops.len())).bandwidth;
+    // The least of a few, so that not every path is lost.
+    let tries = random.between(1, 6);
+    let bits = (0..tries)
+        .map(|_| draft.hop(random.below(draft.hops.len())).bandwidth)
+        .min()
+        .unwrap_or(0);
     match random.below(6) {
         0 => bits.saturating_sub(1),
         1 => (bits + 1).min(0x7F7F_FFFF),

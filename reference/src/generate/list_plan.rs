@@ -1,0 +1,172 @@
+//! Include lists whose meaning, or whose one fault, is known from the way they
+//! were made, not from reading them.
+
+use super::draft::Draft;
+use super::lists::{area_piece, as_piece, route, Include, Piece};
+use super::random::Random;
+use super::shapes;
+
+/// An include list and what reading it must give: the domains with their
+/// entry constraints, or number and place.
+#[derive(Clone, Debug)]
+pub struct PlannedInclude {
+    pub profile: Vec<u8>,
+    pub ingress: u16,
+    pub include: Vec<u8>,
+    pub expected: Result<Vec<(u16, Option<u32>)>, (u32, u32)>,
+}
+
+pub fn planned(random: &mut Random) -> PlannedInclude {
+    let draft = shapes::valid(random);
+    let ingress = random.below(draft.domains.len());
+    let most = random.between(1, 16);
+    let route = route(random, &draft, ingress, most);
+    let mut include = Include::new(&draft, ingress);
+    include.follow(random, &route);
+    let fault = match random.below(3) {
+        0 => None,
+        1 => fault_in_form(random, &mut include.pieces),
+        _ => fault_in_meaning(random, &mut include, &route),
+    };
+    let sequence = route.iter().zip(&include.entries).map(|(&d, &entry)| (d as u16, entry));
+    let expected = match fault {
+        Some((number, offset)) => Err((number, offset as u32)),
+        None => Ok(sequence.collect()),
+    };
+    let include = include.pieces.concat();
+    let expected = if include.len() > 1024 { Err((22, 0)) } else { expected };
+    PlannedInclude { profile: draft.encode(), ingress: ingress as u16, include, expected }
+}
+
+/// Where the piece `index` begins.
+fn offset_of(pieces: &[Piece], index: usize) -> usize {
+    pieces[..index].iter().map(Vec::len).sum()
+}
+
+/// Spoils one piece; all before it are well formed.
+fn fault_in_form(random: &mut Random, pieces: &mut Vec<Piece>) -> Option<(u32, usize)> {
+    if pieces.is_empty() {
+        return None;
+    }
+    let index = random.below(pieces.len());
+    let offset = offset_of(pieces, index);
+    let piece = &mut pieces[index];
+    let number = match random.below(5) {
+        0 => {
+            piece[0] = random.pick(&[0, 2, 3, 4, 8, 33, 127, 0x82, 0xFF]);
+            24
+        }
+        1 => {
+            piece[0] |= 0x80;
+            27
+        }
+        2 => {
+            piece[1] = piece[1].wrapping_add(random.pick(&[1, 4, 8, 252, 255, 100]));
+            25
+        }
+        3 => {
+            let left = random.between(1, piece.len() - 1);
+            piece.truncate(left);
+            pieces.truncate(index + 1);
+            23
+        }
+        _ => field_out_of_range(random, piece)?,
+    };
+    Some((number, offset))
+}
+
+/// Only addresses and IS-IS areas have fields that can be out of range.
+fn field_out_of_range(random: &mut Random, piece: &mut Piece) -> Option<u32> {
+    let area_length = usize::from(piece[2]);
+    match piece[0] {
+        1 => piece[6] = random.pick(&[0, 1, 31, 33, 255]),
+        7 if area_length % 4 != 0 && random.chance(1, 2) => {
+            let last = piece.len() - 1;
+            piece[random.between(4 + area_length, last)] = 0x40;
+        }
+        7 => piece[2] = random.pick(&[0, 14, 16, 255]),
+        _ => return None,
+    }
+    Some(26)
+}
+
+/// Adds what goes wrong in meaning after a list that is right.
+fn fault_in_meaning(
+    random: &mut Random,
+    include: &mut Include,
+    route: &[usize],
+) -> Option<(u32, usize)> {
+    let offset = offset_of(&include.pieces, include.pieces.len());
+    match random.below(7) {
+        0 => unknown_as(random, include, offset),
+        1 => unknown_area(random, include, offset),
+        2 => as_of_several(random, include, offset),
+        3 => {
+            let earlier = &route[..route.len() - 1];
+            let again = (!earlier.is_empty()).then(|| random.pick(earlier));
+            name_wrongly(random, include, again, 30)
+        }
+        4 if route.len() == 16 => {
+            let fresh = (0..include.draft.domains.len()).find(|d| !route.contains(d));
+            name_wrongly(random, include, fresh, 31)
+        }
+        5 => {
+            include.constrain(random, 1);
+            include.name_again(random);
+            let second = offset_of(&include.pieces, include.pieces.len());
+            include.constrain(random, 1);
+            Some((32, second))
+        }
+        _ => {
+            include.constrain(random, 2);
+            include.name_again(random);
+            Some((32, offset))
+        }
+    }
+}
+
+/// Names a domain that can't come here; the fault is at its last subobject.
+fn name_wrongly(
+    random: &mut Random,
+    include: &mut Include,
+    domain: Option<usize>,
+    number: u32,
+) -> Option<(u32, usize)> {
+    include.name(random, domain?);
+    Some((number, offset_of(&include.pieces, include.pieces.len() - 1)))
+}
+
+/// An AS the profile lacks: at the AS if it stands alone, else at the area.
+fn unknown_as(random: &mut Random, include: &mut Include, offset: usize) -> Option<(u32, usize)> {
+    let unknown = (0..).find(|&as_number| include.draft.domains_of(as_number) == 0)?;
+    let piece = as_piece(random, unknown);
+    let after = offset + piece.len();
+    include.pieces.push(piece);
+    if random.chance(1, 2) {
+        return Some((28, offset));
+    }
+    include.pieces.push(area_piece(random, 1, &[0, 0, 0, 0]));
+    Some((28, after))
+}
+
+/// An AS of the profile with an area it lacks.
+fn unknown_area(random: &mut Random, include: &mut Include, offset: usize) -> Option<(u32, usize)> {
+    let known = include.draft.domain(random.below(include.draft.domains.len())).as_number;
+    let piece = as_piece(random, known);
+    let after = offset + piece.len();
+    include.pieces.push(piece);
+    // Generated IS-IS areas have no such byte.
+    include.pieces.push(area_piece(random, 2, &[0x77; 5]));
+    Some((28, after))
+}
+
+fn as_of_several(random: &mut Random, include: &mut Include, offset: usize) -> Option<(u32, usize)> {
+    let several = first_as_of_several(include.draft)?;
+    include.pieces.push(as_piece(random, several));
+    Some((29, offset))
+}
+
+fn first_as_of_several(draft: &Draft) -> Option<u32> {
+    let numbers = (0..draft.domains.len()).map(|i| draft.domain(i).as_number);
+    numbers.into_iter().find(|&as_number| draft.domains_of(as_number) > 1)
+}
