@@ -3,3 +3,7 @@ pub mod Tests
 pub mod Lists
 pub mod Below
 pub mod BoundExact
+pub mod Ascending
+pub mod ShortestPathsExact
+pub mod FirstNextExact
+pub mod SeriesIsBook

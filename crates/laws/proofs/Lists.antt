@@ -7,7 +7,9 @@ use mathlib.Core.List.{List, [], _∷_, _++_, map, List·Memᴰ, List·Memᴰ·h
 use Prim.Native.Nat.{ℕ, zero, suc, _+_, _≤_, _<_}
 use native.Mathlib.Omega.{arith}
 use native.Mathlib.Nat.{eq-or-lt-of-le}
-use Rattle.model.specs.Lists.{countFrom, keepIf, keep, all, any, each}
+use lib.ListN.{length, take, drop, length-append, length-drop}
+use lib.Seq.{take-append-seam, drop-append-seam}
+use Rattle.model.specs.Lists.{countFrom, keepIf, keep, all, any, each, over}
 use Rattle.laws.proofs.Tests.{and-both, or-either, or-left, or-right, or-neither, both-and, decide, clash}
 
 module _ {A : Type 0} where
@@ -189,3 +191,23 @@ mem-countFrom i (suc n) x h k =
     (λ (e : i ≡ x). List·Memᴰ·head (sym e))
     (λ (l : i < x). List·Memᴰ·tail (mem-countFrom (suc i) n x l (omega arith)))
     (eq-or-lt-of-le h)
+
+-- ---- a list written over the start of a buffer
+
+module _ {A : Type 0} where
+  -- the buffer keeps its length, starts with what was written, and keeps what lies past it
+  pub over-length : (new old : List A) → length new ≤ length old → length (over new old) ≡ length old
+  unfolding over
+  over-length new old h = length-append new (drop (length new) old) ∙ rw length-drop (omega arith)
+
+  pub over-take : (new old : List A) → take (length new) (over new old) ≡ new
+  unfolding over
+  over-take new old = take-append-seam new (drop (length new) old)
+
+  pub over-drop : (new old : List A) → drop (length new) (over new old) ≡ drop (length new) old
+  unfolding over
+  over-drop new old = drop-append-seam new (drop (length new) old)
+
+  pub over-nothing : (old : List A) → over [] old ≡ old
+  unfolding over
+  over-nothing old = refl

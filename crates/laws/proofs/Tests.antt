@@ -58,3 +58,8 @@ or-neither false b e = (refl, e)
 pub neither-or : (a b : Bool) → a ≡ false → b ≡ false → (a || b) ≡ false
 neither-or true b p q = absurd (true≢false p)
 neither-or false b p q = q
+
+-- a test that can't be true is false
+pub refuted : (b : Bool) → (b ≡ true → ⊥) → b ≡ false
+refuted true h = absurd (h refl)
+refuted false h = refl
