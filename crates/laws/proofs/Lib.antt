@@ -7,3 +7,11 @@ pub mod Ascending
 pub mod ShortestPathsExact
 pub mod FirstNextExact
 pub mod SeriesIsBook
+pub mod Turns
+pub mod Accepted
+pub mod HopOrder
+pub mod EntryNodes
+pub mod ClassesApart
+pub mod ProfileLists
+pub mod BigEndian
+pub mod Records
