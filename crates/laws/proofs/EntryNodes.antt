@@ -17,7 +17,7 @@ use Rattle.laws.proofs.Tests.{decide, and-false}
 use Rattle.laws.proofs.Lists.{Sorted, keep-append, keep-mem, mem-keep, map-mem, mem-map, map-append}
 use Rattle.laws.proofs.ProfileLists.{different-mem, mem-different, different-ascending, different-snoc}
 use Rattle.laws.proofs.Records.{length-hops, take-hops}
-use Rattle.laws.proofs.HopOrder.{between-both}
+use Rattle.laws.proofs.HopKeys.{between-both}
 use Rattle.laws.proofs.Accepted.{AcceptedProfile}
 
 -- ---- entry nodes of any list of hops

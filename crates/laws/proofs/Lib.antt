@@ -15,3 +15,11 @@ pub mod ClassesApart
 pub mod ProfileLists
 pub mod BigEndian
 pub mod Records
+pub mod HopKeys
+pub mod Suffixes
+pub mod SuffixesAscend
+pub mod SuffixTotals
+pub mod Allowed
+pub mod PathsAreThePaths
+pub mod AcceptedRequest
+pub mod AcceptedPaths
