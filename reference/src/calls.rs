@@ -67,7 +67,10 @@ pub fn tree(
     let result = Question::accept(request).and_then(|question| {
         let tree = Tree::new(&question);
         let needed = tree.entry_count();
-        enough_room(&[level.len(), address.len(), reachable.len(), cost.len()], needed)?;
+        enough_room(
+            &[level.len(), address.len(), reachable.len(), cost.len()],
+            needed,
+        )?;
         let mut at = 0;
         for (i, entries) in tree.levels.iter().enumerate() {
             for entry in entries {

@@ -3,7 +3,7 @@
 
 use crate::floats;
 use crate::outcome::NotDone;
-use crate::profile::{hop_of, u16_at, u32_at, Hop, Profile, HEADER, IS_IS, NO_AREA, OSPF, RECORD};
+use crate::profile::{u16_at, u32_at, Hop, Profile, Record, HEADER, IS_IS, NO_AREA, OSPF, RECORD};
 use crate::reserved;
 
 const MAX_DOMAINS: usize = 64;
@@ -30,7 +30,7 @@ fn header(bytes: &[u8]) -> Result<Profile<'_>, NotDone> {
     let class = bytes[5];
     let domains = usize::from(u16_at(bytes, 6));
     let hops = usize::from(u16_at(bytes, 8));
-    if class > 1 || domains < 1 || domains > MAX_DOMAINS || hops > MAX_HOPS {
+    if class > 1 || !(1..=MAX_DOMAINS).contains(&domains) || hops > MAX_HOPS {
         return NotDone::at(12, 0);
     }
     if bytes.len() != HEADER + RECORD * (domains + hops) {
@@ -41,8 +41,8 @@ fn header(bytes: &[u8]) -> Result<Profile<'_>, NotDone> {
 
 /// Each record passes 14, 15 and 16 before the next is looked at.
 fn domain_records(profile: &Profile) -> Result<(), NotDone> {
-    let mut before: Option<&[u8]> = None;
-    for (place, record) in profile.domain_records().enumerate() {
+    let mut before: Option<&Record> = None;
+    for (place, record) in profile.domain_records().iter().enumerate() {
         if !domain_well_formed(record) {
             return NotDone::at(14, place);
         }
@@ -57,7 +57,7 @@ fn domain_records(profile: &Profile) -> Result<(), NotDone> {
     Ok(())
 }
 
-fn domain_well_formed(record: &[u8]) -> bool {
+fn domain_well_formed(record: &Record) -> bool {
     let length = usize::from(record[5]);
     let length_fits = match record[4] {
         NO_AREA => length == 0,
@@ -71,7 +71,7 @@ fn domain_well_formed(record: &[u8]) -> bool {
 
 /// Ascending records keep an AS together with its kind 0 first, so a kind 0
 /// that rules the record out can only stand right before it.
-fn domain_may_follow(before: &[u8], record: &[u8]) -> bool {
+fn domain_may_follow(before: &Record, record: &Record) -> bool {
     let same_as = before[..4] == record[..4];
     before < record && !(same_as && before[4] == NO_AREA)
 }
@@ -79,20 +79,19 @@ fn domain_may_follow(before: &[u8], record: &[u8]) -> bool {
 /// Each record passes 17, 18 and 16 before the next is looked at.
 fn hop_records(profile: &Profile) -> Result<(), NotDone> {
     let domains = profile.domain_count();
-    let mut before: Option<&[u8]> = None;
-    for (index, record) in profile.hop_records().enumerate() {
+    let mut before: Option<Hop> = None;
+    for (index, hop) in profile.hops().enumerate() {
         let place = domains + index;
-        let hop = hop_of(record);
         if !hop_well_formed(&hop, domains) {
             return NotDone::at(17, place);
         }
-        if before.is_some_and(|b| b[..12] >= record[..12]) {
+        if before.is_some_and(|b| b.key() >= hop.key()) {
             return NotDone::at(18, place);
         }
         if reserved::address(hop.u) == profile.live || reserved::address(hop.v) == profile.live {
             return NotDone::at(16, place);
         }
-        before = Some(record);
+        before = Some(hop);
     }
     Ok(())
 }

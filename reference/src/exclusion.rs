@@ -25,7 +25,9 @@ impl Exclusion {
     }
 
     pub fn address(&self, address: u32) -> bool {
-        self.prefixes.iter().any(|&(base, length)| inside_prefix(address, base, length))
+        self.prefixes
+            .iter()
+            .any(|&(base, length)| inside_prefix(address, base, length))
     }
 }
 

@@ -86,11 +86,19 @@ mod tests {
         for &a in &bits {
             for &t in &totals {
                 let wide = f64::from(t) <= f64::from(f32::from_bits(a));
-                assert_eq!(Exact::of_whole(t) <= Exact::of_float(a), wide, "{t} and {a:x}");
+                assert_eq!(
+                    Exact::of_whole(t) <= Exact::of_float(a),
+                    wide,
+                    "{t} and {a:x}"
+                );
             }
             for &b in bits.iter().step_by(7) {
                 let wide = f64::from(f32::from_bits(a)) >= f64::from(f32::from_bits(b));
-                assert_eq!(Exact::of_float(a) >= Exact::of_float(b), wide, "{a:x} and {b:x}");
+                assert_eq!(
+                    Exact::of_float(a) >= Exact::of_float(b),
+                    wide,
+                    "{a:x} and {b:x}"
+                );
             }
         }
     }

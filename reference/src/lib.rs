@@ -28,9 +28,11 @@ pub mod generate;
 pub mod series;
 
 pub use calls::{check_profile, first, next, read_include, tree, write_list};
+pub use exclusion::Exclusion;
 pub use floats::Exact;
 pub use outcome::NotDone;
 pub use paths::ShortestPaths;
 pub use profile::{Domain, Hop, Profile};
 pub use request::{Question, Request};
-pub use series::{series, Call, Outcome};
+pub use sequence::Stop;
+pub use series::{reference_series, series, Call, Outcome};

@@ -10,7 +10,10 @@ pub struct NotDone {
 impl NotDone {
     /// The answer `number` at `place`, ready to be returned.
     pub fn at<T>(number: u32, place: usize) -> Result<T, NotDone> {
-        Err(NotDone { number, place: place as u32 })
+        Err(NotDone {
+            number,
+            place: place as u32,
+        })
     }
 }
 

@@ -25,9 +25,17 @@ impl ShortestPaths {
         let counts = walk_counts(question, &tight);
         // All paths listed have the least total, so the bound admits all of
         // them or none.
-        let total = tree.least(0, question.source).filter(|&t| question.within_bound(t));
+        let total = tree
+            .least(0, question.source)
+            .filter(|&t| question.within_bound(t));
         let length = question.path_length();
-        ShortestPaths { source: question.source, length, total, tight, counts }
+        ShortestPaths {
+            source: question.source,
+            length,
+            total,
+            tight,
+            counts,
+        }
     }
 
     /// The total of every listed path; None if none is admissible.
@@ -88,7 +96,9 @@ impl ShortestPaths {
     /// The tight next addresses after the last address of `path`.
     fn choices(&self, path: &[u32]) -> &[u32] {
         let here = path[path.len() - 1];
-        self.tight[path.len() - 1].get(&here).map_or(&[], Vec::as_slice)
+        self.tight[path.len() - 1]
+            .get(&here)
+            .map_or(&[], Vec::as_slice)
     }
 
     fn complete(&self, path: &mut Vec<u32>) {
@@ -139,17 +149,16 @@ fn tight_steps(question: &Question, tree: &Tree) -> Vec<BTreeMap<u32, Vec<u32>>>
                 onward.entry(hop.u).or_default().push(hop.v);
             }
         }
-        onward.values_mut().for_each(|choices| choices.sort_unstable());
+        onward
+            .values_mut()
+            .for_each(|choices| choices.sort_unstable());
         tight.push(onward);
     }
     tight
 }
 
 /// At most 16 entry nodes for each of 15 domains: far below the limit of u128.
-fn walk_counts(
-    question: &Question,
-    tight: &[BTreeMap<u32, Vec<u32>>],
-) -> Vec<BTreeMap<u32, u128>> {
+fn walk_counts(question: &Question, tight: &[BTreeMap<u32, Vec<u32>>]) -> Vec<BTreeMap<u32, u128>> {
     let mut counts = vec![BTreeMap::new(); tight.len() + 1];
     counts[tight.len()].insert(question.destination, 1u128);
     for i in (0..tight.len()).rev() {

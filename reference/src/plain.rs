@@ -77,7 +77,7 @@ impl<'a> Plain<'a> {
             .walks(0, self.question.source)
             .into_iter()
             .filter(|walk| self.keeps_rules(0, walk))
-            .filter(|walk| self.bound.map_or(true, |b| f64::from(walk.total()) <= b))
+            .filter(|walk| self.bound.is_none_or(|b| f64::from(walk.total()) <= b))
             .collect();
         let least = admissible.iter().map(Walk::total).min();
         let mut paths: Vec<Vec<u32>> = admissible
@@ -95,10 +95,16 @@ impl<'a> Plain<'a> {
         for level in 0..=self.question.last() {
             for address in self.entry_nodes(level) {
                 let least = self.least(level, address);
-                entries.push(TreeEntry { level: level as u32, address, least });
+                entries.push(TreeEntry {
+                    level: level as u32,
+                    address,
+                    least,
+                });
             }
         }
-        let tally: usize = (0..=self.question.last()).map(|i| self.step(i).count()).sum();
+        let tally: usize = (0..=self.question.last())
+            .map(|i| self.step(i).count())
+            .sum();
         (entries, tally as u32)
     }
 
@@ -126,15 +132,24 @@ impl<'a> Plain<'a> {
         let stops = &self.question.stops;
         let from = stops[i].domain;
         let to = stops.get(i + 1).map_or(from, |stop| stop.domain);
-        self.question.profile.hops().filter(move |hop| hop.from == from && hop.to == to)
+        self.question
+            .profile
+            .hops()
+            .filter(move |hop| hop.from == from && hop.to == to)
     }
 
     /// Every walk from `address` in domain `level`, wherever it ends.
     fn walks(&self, level: usize, address: u32) -> Vec<Walk> {
-        let mut walks = vec![Walk { addresses: vec![address], hops: Vec::new() }];
+        let mut walks = vec![Walk {
+            addresses: vec![address],
+            hops: Vec::new(),
+        }];
         for i in level..=self.question.last() {
             let hops: Vec<Hop> = self.step(i).collect();
-            walks = walks.iter().flat_map(|walk| extended(walk, &hops)).collect();
+            walks = walks
+                .iter()
+                .flat_map(|walk| extended(walk, &hops))
+                .collect();
         }
         walks
     }
@@ -145,13 +160,16 @@ impl<'a> Plain<'a> {
         let stops = &self.question.stops[level..];
         let excluded = &self.question.exclusion;
         let arrives = walk.addresses.last() == Some(&self.question.destination);
-        let wide_enough = walk.hops.iter().all(|h| f32::from_bits(h.bandwidth) >= self.bandwidth);
+        let wide_enough = walk
+            .hops
+            .iter()
+            .all(|h| f32::from_bits(h.bandwidth) >= self.bandwidth);
         let domains_free = stops.iter().all(|stop| !excluded.domain(stop.domain));
         let addresses_free = walk.addresses.iter().all(|&a| !excluded.address(a));
         let entries_kept = stops
             .iter()
             .zip(&walk.addresses)
-            .all(|(stop, &address)| stop.entry.map_or(true, |entry| entry == address));
+            .all(|(stop, &address)| stop.entry.is_none_or(|entry| entry == address));
         arrives && wide_enough && domains_free && addresses_free && entries_kept
     }
 }

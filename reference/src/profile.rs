@@ -8,6 +8,9 @@ pub const NO_AREA: u8 = 0;
 pub const OSPF: u8 = 1;
 pub const IS_IS: u8 = 2;
 
+/// The bytes of one domain or hop record.
+pub type Record = [u8; RECORD];
+
 pub fn u16_at(bytes: &[u8], at: usize) -> u16 {
     u16::from_be_bytes([bytes[at], bytes[at + 1]])
 }
@@ -36,60 +39,70 @@ pub struct Hop {
     pub bandwidth: u32,
 }
 
+impl Hop {
+    /// What the records of a profile ascend by: their first 12 bytes.
+    pub fn key(&self) -> (usize, usize, u32, u32) {
+        (self.from, self.to, self.u, self.v)
+    }
+}
+
 /// A profile whose header and length are right; `check` makes these.
 #[derive(Clone, Copy, Debug)]
 pub struct Profile<'a> {
     pub live: bool,
-    domain_bytes: &'a [u8],
-    hop_bytes: &'a [u8],
+    domains: &'a [Record],
+    hops: &'a [Record],
 }
 
 impl<'a> Profile<'a> {
     /// `bytes` holds the header, then `domains` domain records, then hops.
     pub fn new(bytes: &'a [u8], live: bool, domains: usize) -> Profile<'a> {
-        let (domain_bytes, hop_bytes) = bytes[HEADER..].split_at(domains * RECORD);
-        Profile { live, domain_bytes, hop_bytes }
+        let (records, _) = bytes[HEADER..].as_chunks();
+        let (domains, hops) = records.split_at(domains);
+        Profile {
+            live,
+            domains,
+            hops,
+        }
     }
 
     pub fn domain_count(&self) -> usize {
-        self.domain_bytes.len() / RECORD
+        self.domains.len()
     }
 
     pub fn hop_count(&self) -> usize {
-        self.hop_bytes.len() / RECORD
+        self.hops.len()
     }
 
     /// The domain records' bytes, in turn.
-    pub fn domain_records(&self) -> std::slice::ChunksExact<'a, u8> {
-        self.domain_bytes.chunks_exact(RECORD)
-    }
-
-    /// The hop records' bytes, in turn.
-    pub fn hop_records(&self) -> std::slice::ChunksExact<'a, u8> {
-        self.hop_bytes.chunks_exact(RECORD)
+    pub fn domain_records(&self) -> &'a [Record] {
+        self.domains
     }
 
     /// Domain `index` of a checked profile.
     pub fn domain(&self, index: usize) -> Domain<'a> {
-        let record = &self.domain_bytes[index * RECORD..(index + 1) * RECORD];
-        domain_of(record)
+        domain_of(&self.domains[index])
     }
 
     pub fn domains(&self) -> impl Iterator<Item = Domain<'a>> {
-        self.domain_records().map(domain_of)
+        self.domains.iter().map(domain_of)
     }
 
     pub fn hops(&self) -> impl Iterator<Item = Hop> + 'a {
-        self.hop_records().map(hop_of)
+        self.hops.iter().map(hop_of)
     }
 }
 
-pub fn domain_of(record: &[u8]) -> Domain<'_> {
+pub fn domain_of(record: &Record) -> Domain<'_> {
     let length = usize::from(record[5]);
-    Domain { as_number: u32_at(record, 0), kind: record[4], area: &record[6..6 + length] }
+    Domain {
+        as_number: u32_at(record, 0),
+        kind: record[4],
+        area: &record[6..6 + length],
+    }
 }
 
-pub fn hop_of(record: &[u8]) -> Hop {
+pub fn hop_of(record: &Record) -> Hop {
     Hop {
         from: usize::from(u16_at(record, 0)),
         to: usize::from(u16_at(record, 2)),

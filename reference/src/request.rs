@@ -56,7 +56,9 @@ impl<'a> Question<'a> {
             source: request.source,
             destination: request.destination,
             bandwidth: Exact::of_float(request.bandwidth_bits),
-            bound: request.bound_counts.then(|| Exact::of_float(request.bound_bits)),
+            bound: request
+                .bound_counts
+                .then(|| Exact::of_float(request.bound_bits)),
         })
     }
 
@@ -82,16 +84,13 @@ impl<'a> Question<'a> {
     }
 
     pub fn within_bound(&self, total: u32) -> bool {
-        self.bound.map_or(true, |bound| Exact::of_whole(total) <= bound)
+        self.bound
+            .is_none_or(|bound| Exact::of_whole(total) <= bound)
     }
 }
 
 /// Reads an include list on its own, as `read_include` does.
-pub fn accept_include(
-    profile: &[u8],
-    ingress: u16,
-    include: &[u8],
-) -> Result<Vec<Stop>, NotDone> {
+pub fn accept_include(profile: &[u8], ingress: u16, include: &[u8]) -> Result<Vec<Stop>, NotDone> {
     let profile = check(profile)?;
     check_ingress(&profile, ingress)?;
     check_list_length(include, 0)?;

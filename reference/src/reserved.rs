@@ -12,7 +12,9 @@ const ADDRESS_RANGES: [(u32, u32); 3] = [
 ];
 
 fn inside(ranges: &[(u32, u32)], value: u32) -> bool {
-    ranges.iter().any(|&(first, last)| first <= value && value <= last)
+    ranges
+        .iter()
+        .any(|&(first, last)| first <= value && value <= last)
 }
 
 pub fn as_number(value: u32) -> bool {

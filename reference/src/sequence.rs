@@ -24,7 +24,10 @@ pub fn read_meaning(
     let mut reader = Reader {
         profile,
         current_as: profile.domain(ingress).as_number,
-        stops: vec![Stop { domain: ingress, entry: None }],
+        stops: vec![Stop {
+            domain: ingress,
+            entry: None,
+        }],
         waiting: None,
     };
     for (index, subobject) in list.iter().enumerate() {
@@ -86,7 +89,10 @@ impl Reader<'_> {
             }
             found = Some(index);
         }
-        found.ok_or(NotDone { number: 28, place: offset as u32 })
+        found.ok_or(NotDone {
+            number: 28,
+            place: offset as u32,
+        })
     }
 
     /// The domain of the current AS that has this area.
@@ -95,7 +101,10 @@ impl Reader<'_> {
         self.profile
             .domains()
             .position(|d| d.as_number == current_as && d.kind == kind && d.area == area)
-            .ok_or(NotDone { number: 28, place: offset as u32 })
+            .ok_or(NotDone {
+                number: 28,
+                place: offset as u32,
+            })
     }
 
     /// Goes on to `domain`. Naming the domain one is in adds nothing, and an

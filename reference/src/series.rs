@@ -126,7 +126,12 @@ impl Book {
             let total = paths.total();
             (Listing::Counted(Box::new(paths)), total)
         };
-        Ok(Book { listing, total, length: plain.path_length(), position: 0 })
+        Ok(Book {
+            listing,
+            total,
+            length: plain.path_length(),
+            position: 0,
+        })
     }
 
     fn answer(&mut self, call: Call, buffer: &mut [u32]) -> Result<[u32; 3], NotDone> {
@@ -147,7 +152,10 @@ impl Book {
     }
 
     fn hand_out(&mut self, position: u128, buffer: &mut [u32]) -> Result<[u32; 3], NotDone> {
-        let path = self.listing.at(position).expect("a position below the count");
+        let path = self
+            .listing
+            .at(position)
+            .expect("a position below the count");
         let total = self.total.expect("a listed path has a total");
         buffer[..path.len()].copy_from_slice(&path);
         self.position = position + 1;

@@ -35,7 +35,11 @@ pub struct Subobject<'a> {
 /// All subobjects of a list, or the first one whose form is wrong.
 pub fn read_form(bytes: &[u8], list: List) -> Result<Vec<Subobject<'_>>, NotDone> {
     let mut subobjects = Vec::new();
-    let mut walk = Walk { bytes, offset: 0, list };
+    let mut walk = Walk {
+        bytes,
+        offset: 0,
+        list,
+    };
     while let Some(subobject) = walk.step()? {
         subobjects.push(subobject);
     }
@@ -93,7 +97,10 @@ fn measure(rest: &[u8], list: List) -> Result<&[u8], u32> {
 }
 
 fn supported(kind: u8) -> bool {
-    matches!(kind, IPV4 | AS_FOUR_BYTES | OSPF_AREA | IS_IS_AREA | AS_TWO_BYTES)
+    matches!(
+        kind,
+        IPV4 | AS_FOUR_BYTES | OSPF_AREA | IS_IS_AREA | AS_TWO_BYTES
+    )
 }
 
 /// The whole length of a subobject. `third` is its third byte, which is the
@@ -112,7 +119,10 @@ fn read_body(whole: &[u8], list: List) -> Result<(usize, Body<'_>), u32> {
         IPV4 => read_address(whole, list)?,
         AS_FOUR_BYTES => Body::AsNumber(u32_at(whole, 4)),
         AS_TWO_BYTES => Body::AsNumber(u32::from(u16_at(whole, 2))),
-        OSPF_AREA => Body::Area { kind: OSPF, area: &whole[4..8] },
+        OSPF_AREA => Body::Area {
+            kind: OSPF,
+            area: &whole[4..8],
+        },
         _ => read_is_is(whole)?,
     };
     Ok((whole.len(), body))
@@ -127,7 +137,10 @@ fn read_address(whole: &[u8], list: List) -> Result<Body<'_>, u32> {
     if !fits {
         return Err(26);
     }
-    Ok(Body::Address { address: u32_at(whole, 2), prefix })
+    Ok(Body::Address {
+        address: u32_at(whole, 2),
+        prefix,
+    })
 }
 
 fn read_is_is(whole: &[u8]) -> Result<Body<'_>, u32> {

@@ -105,7 +105,7 @@ fn least_cost(
 
 fn may_enter(question: &Question, i: usize, address: u32) -> bool {
     let stop = question.stops[i];
-    let entry_fits = stop.entry.map_or(true, |entry| entry == address);
+    let entry_fits = stop.entry.is_none_or(|entry| entry == address);
     entry_fits && !question.exclusion.domain(stop.domain) && !question.exclusion.address(address)
 }
 
@@ -116,6 +116,8 @@ fn arrived(question: &Question, address: u32) -> Option<u32> {
 }
 
 fn least_in(level: &[Entry], address: u32) -> Option<u32> {
-    let index = level.binary_search_by_key(&address, |entry| entry.address).ok()?;
+    let index = level
+        .binary_search_by_key(&address, |entry| entry.address)
+        .ok()?;
     level[index].least
 }

@@ -16,7 +16,9 @@ pub fn gather(
     if !counts_agree || count == 0 || count > MAX_DOMAINS {
         return NotDone::at(35, 0);
     }
-    let indexes_fit = domains.iter().all(|&d| usize::from(d) < profile.domain_count());
+    let indexes_fit = domains
+        .iter()
+        .all(|&d| usize::from(d) < profile.domain_count());
     let marks_fit = pinned.iter().all(|&mark| mark <= 1);
     if !indexes_fit || !marks_fit || pinned[0] == 1 || any_twice(domains) {
         return NotDone::at(35, 0);
@@ -29,7 +31,10 @@ pub fn gather(
 }
 
 fn any_twice(domains: &[u16]) -> bool {
-    domains.iter().enumerate().any(|(i, d)| domains[..i].contains(d))
+    domains
+        .iter()
+        .enumerate()
+        .any(|(i, d)| domains[..i].contains(d))
 }
 
 /// The include list that names `stops`, read back with the first as ingress.

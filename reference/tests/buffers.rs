@@ -27,8 +27,13 @@ fn read_include_keeps_the_rest() {
         let mut after = case.clone();
         let mut numbers = [9; 2];
         let number = reference::read_include(
-            &case.profile, case.ingress, &case.include,
-            &mut after.domains, &mut after.pinned, &mut after.pins, &mut numbers,
+            &case.profile,
+            case.ingress,
+            &case.include,
+            &mut after.domains,
+            &mut after.pinned,
+            &mut after.pins,
+            &mut numbers,
         );
         let end = result_end(number, numbers, numbers[1] as usize);
         unchanged_from(end, &case.domains, &after.domains, seed);
@@ -47,7 +52,12 @@ fn write_list_keeps_the_rest() {
         let mut out = case.out.clone();
         let mut numbers = [9; 2];
         let number = reference::write_list(
-            &case.profile, &case.domains, &case.pinned, &case.pins, &mut out, &mut numbers,
+            &case.profile,
+            &case.domains,
+            &case.pinned,
+            &case.pins,
+            &mut out,
+            &mut numbers,
         );
         let end = result_end(number, numbers, numbers[1] as usize);
         unchanged_from(end, &case.out, &out, seed);
@@ -61,8 +71,12 @@ fn tree_keeps_the_rest() {
         let mut after = case.clone();
         let mut numbers = [9; 3];
         let number = reference::tree(
-            &case.request(), &mut after.level, &mut after.address,
-            &mut after.reachable, &mut after.cost, &mut numbers,
+            &case.request(),
+            &mut after.level,
+            &mut after.address,
+            &mut after.reachable,
+            &mut after.cost,
+            &mut numbers,
         );
         let end = result_end(number, numbers, numbers[1] as usize);
         unchanged_from(end, &case.level, &after.level, seed);

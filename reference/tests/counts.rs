@@ -22,8 +22,13 @@ fn read_include_counts() -> Counts {
     for seed in 0..CASES {
         let mut case = generate::include_case(seed);
         let number = reference::read_include(
-            &case.profile, case.ingress, &case.include,
-            &mut case.domains, &mut case.pinned, &mut case.pins, &mut [0; 2],
+            &case.profile,
+            case.ingress,
+            &case.include,
+            &mut case.domains,
+            &mut case.pinned,
+            &mut case.pins,
+            &mut [0; 2],
         );
         *counts.entry(number).or_default() += 1;
     }
@@ -35,7 +40,12 @@ fn write_list_counts() -> Counts {
     for seed in 0..CASES {
         let mut case = generate::write_case(seed);
         let number = reference::write_list(
-            &case.profile, &case.domains, &case.pinned, &case.pins, &mut case.out, &mut [0; 2],
+            &case.profile,
+            &case.domains,
+            &case.pinned,
+            &case.pins,
+            &mut case.out,
+            &mut [0; 2],
         );
         *counts.entry(number).or_default() += 1;
     }
@@ -49,7 +59,12 @@ fn tree_counts() -> Counts {
         let (mut level, mut address) = (case.level.clone(), case.address.clone());
         let (mut reachable, mut cost) = (case.reachable.clone(), case.cost.clone());
         let number = reference::tree(
-            &case.request(), &mut level, &mut address, &mut reachable, &mut cost, &mut [0; 3],
+            &case.request(),
+            &mut level,
+            &mut address,
+            &mut reachable,
+            &mut cost,
+            &mut [0; 3],
         );
         *counts.entry(number).or_default() += 1;
     }
@@ -100,7 +115,9 @@ fn table(columns: &[(&str, Counts)]) -> String {
     for number in [0, 1, 2].into_iter().chain(10..=35) {
         text += &format!("\n{number:>6}");
         for (_, counts) in columns {
-            let count = counts.get(&number).map_or("-".to_string(), usize::to_string);
+            let count = counts
+                .get(&number)
+                .map_or("-".to_string(), usize::to_string);
             text += &format!("{count:>15}");
         }
     }

@@ -8,7 +8,9 @@ use reference::plain::Plain;
 const MOST_WALKS: u128 = 20_000;
 
 fn plain(case: &RequestCase) -> Option<Plain<'_>> {
-    Plain::new(&case.request()).ok().filter(|plain| plain.walk_count() <= MOST_WALKS)
+    Plain::new(&case.request())
+        .ok()
+        .filter(|plain| plain.walk_count() <= MOST_WALKS)
 }
 
 #[test]
@@ -20,13 +22,27 @@ fn tree_is_the_least_over_all_suffixes() {
         let (entries, tally) = plain.tree();
         let expected: Vec<_> = entries
             .iter()
-            .map(|e| (e.level, e.address, u8::from(e.least.is_some()), e.least.unwrap_or(0)))
+            .map(|e| {
+                (
+                    e.level,
+                    e.address,
+                    u8::from(e.least.is_some()),
+                    e.least.unwrap_or(0),
+                )
+            })
             .collect();
-        assert_eq!(common::tree(&case.request()), (expected, tally), "seed {seed}");
+        assert_eq!(
+            common::tree(&case.request()),
+            (expected, tally),
+            "seed {seed}"
+        );
         compared += 1;
         reached += usize::from(entries[0].least.is_some());
     }
-    assert!(compared > 2500 && reached > 1000, "{compared} compared, {reached} reached");
+    assert!(
+        compared > 2500 && reached > 1000,
+        "{compared} compared, {reached} reached"
+    );
 }
 
 #[test]
@@ -36,15 +52,20 @@ fn first_and_next_go_through_the_listing() {
         let case = generate::small_request_case(seed);
         let Some(plain) = plain(&case) else { continue };
         let (paths, total) = plain.listing();
-        let expected: Vec<_> =
-            paths.iter().map(|path| (path.clone(), total.unwrap_or(0))).collect();
+        let expected: Vec<_> = paths
+            .iter()
+            .map(|path| (path.clone(), total.unwrap_or(0)))
+            .collect();
         let found = common::listing(&case.request(), plain.path_length());
         assert_eq!(found, expected, "seed {seed}");
         compared += 1;
         some += usize::from(!paths.is_empty());
         several += usize::from(paths.len() > 1);
     }
-    assert!(compared > 2500 && some > 1000 && several > 400, "{compared} {some} {several}");
+    assert!(
+        compared > 2500 && some > 1000 && several > 400,
+        "{compared} {some} {several}"
+    );
 }
 
 #[test]
@@ -52,7 +73,9 @@ fn next_is_the_least_path_greater_than_any_list() {
     let (mut found, mut ended, mut refused) = (0, 0, 0);
     for seed in 0..6000 {
         let case = generate::small_next_case(seed);
-        let Some(plain) = plain(&case.request) else { continue };
+        let Some(plain) = plain(&case.request) else {
+            continue;
+        };
         let (paths, total) = plain.listing();
         let length = plain.path_length();
         let (number, numbers, path) =
@@ -76,7 +99,10 @@ fn next_is_the_least_path_greater_than_any_list() {
             }
         }
     }
-    assert!(found > 500 && ended > 500 && refused > 100, "{found} {ended} {refused}");
+    assert!(
+        found > 500 && ended > 500 && refused > 100,
+        "{found} {ended} {refused}"
+    );
 }
 
 #[test]
@@ -89,7 +115,11 @@ fn position_in_the_listing_counts_the_paths() {
         let counted = reference::ShortestPaths::new(&question);
         assert_eq!(counted.count(), paths.len() as u128, "seed {seed}");
         for (position, path) in paths.iter().enumerate() {
-            assert_eq!(counted.at(position as u128).as_ref(), Some(path), "seed {seed}");
+            assert_eq!(
+                counted.at(position as u128).as_ref(),
+                Some(path),
+                "seed {seed}"
+            );
         }
         assert_eq!(counted.at(paths.len() as u128), None);
     }

@@ -11,13 +11,23 @@ fn a_written_list_reads_back() {
         let mut numbers = [7; 2];
         let before = case.out.clone();
         let number = reference::write_list(
-            &case.profile, &case.domains, &case.pinned, &case.pins, &mut case.out, &mut numbers,
+            &case.profile,
+            &case.domains,
+            &case.pinned,
+            &case.pins,
+            &mut case.out,
+            &mut numbers,
         );
         assert_eq!((number, numbers[0]), (0, 0), "seed {seed}");
         let length = numbers[1] as usize;
         assert_eq!(case.out[length..], before[length..], "seed {seed}");
         let expected: Vec<(u16, Option<u32>)> = (0..case.domains.len())
-            .map(|i| (case.domains[i], (case.pinned[i] == 1).then_some(case.pins[i])))
+            .map(|i| {
+                (
+                    case.domains[i],
+                    (case.pinned[i] == 1).then_some(case.pins[i]),
+                )
+            })
             .collect();
         let read = common::read(&case.profile, case.domains[0], &case.out[..length]);
         assert_eq!(read, Ok(expected), "seed {seed}");

@@ -2,7 +2,8 @@
 
 mod common;
 use reference::generate::{self, EQUAL_PATHS_WIDTHS};
-use reference::{series, Call, Question, ShortestPaths};
+use reference::{reference_series, series, Call, Question, ShortestPaths};
+use std::collections::HashMap;
 use std::time::{Duration, Instant};
 
 #[test]
@@ -11,7 +12,10 @@ fn the_largest_profile_is_answered_at_once() {
         assert_eq!(generate::largest_profile(seed).len(), 61_292);
         let case = generate::largest_request(seed);
         assert_eq!(common::check(&case.profile), (0, 0));
-        assert_eq!(common::read(&case.profile, 0, &case.include).unwrap().len(), 16);
+        assert_eq!(
+            common::read(&case.profile, 0, &case.include).unwrap().len(),
+            16
+        );
         let start = Instant::now();
         let (entries, tally) = common::tree(&case.request());
         assert_eq!((entries.len(), tally), (1 + 15 * 16, 3000));
@@ -20,6 +24,42 @@ fn the_largest_profile_is_answered_at_once() {
         let (number, ..) = common::next(&case.request(), &path, 17);
         assert!(number == 0 || number == 2);
         assert!(start.elapsed() < Duration::from_secs(2), "seed {seed}");
+    }
+}
+
+/// The least total worked out from the source on, the other way round.
+fn forward_least(profile: &[u8], source: u32, destination: u32) -> Option<u64> {
+    let word = |at: usize| u32::from_be_bytes(profile[at..at + 4].try_into().unwrap());
+    let mut reached: HashMap<u32, u64> = HashMap::from([(source, 0)]);
+    for i in 0..16u32 {
+        let pair = i << 16 | (i + 1).min(15);
+        let mut onward = HashMap::new();
+        for at in (12 + 64 * 20..profile.len())
+            .step_by(20)
+            .filter(|&at| word(at) == pair)
+        {
+            if let Some(before) = reached.get(&word(at + 4)) {
+                let total = before + u64::from(word(at + 12));
+                let least = onward.entry(word(at + 8)).or_insert(total);
+                *least = total.min(*least);
+            }
+        }
+        reached = onward;
+    }
+    reached.get(&destination).copied()
+}
+
+#[test]
+fn the_least_total_of_the_largest_profile() {
+    for seed in 0..20 {
+        let case = generate::largest_request(seed);
+        let (number, numbers, _) = common::first(&case.request(), 17);
+        let least = forward_least(&case.profile, case.source, case.destination);
+        assert_eq!(
+            (number, Some(u64::from(numbers[1]))),
+            (0, least),
+            "seed {seed}"
+        );
     }
 }
 
@@ -46,7 +86,7 @@ fn next_among_the_most_equal_paths() {
     let count = paths.count();
     let mut random = generate::Random::new(1, 99);
     for _ in 0..100 {
-        let position = u128::from(random.next()) % (count - 1);
+        let position = u128::from(random.step()) % (count - 1);
         let here = paths.at(position).unwrap();
         let (number, numbers, path) = common::next(&case.request(), &here, 17);
         assert_eq!((number, numbers[1]), (0, 16));
@@ -62,12 +102,19 @@ fn next_among_the_most_equal_paths() {
 #[test]
 fn a_series_among_the_most_equal_paths() {
     let case = generate::equal_paths_request();
-    let calls: Vec<Call> =
-        (0..200).map(|i| if i % 150 == 0 { Call::First } else { Call::Next }).collect();
+    let calls: Vec<Call> = (0..200)
+        .map(|i| {
+            if i % 150 == 0 {
+                Call::First
+            } else {
+                Call::Next
+            }
+        })
+        .collect();
     let mut run = vec![vec![0; 17]; calls.len()];
     let mut book = run.clone();
     let outcomes = series(&case.request(), &calls, &mut run);
-    let expected = series::reference_series(&case.request(), &calls, &mut book);
+    let expected = reference_series(&case.request(), &calls, &mut book);
     assert_eq!(outcomes, expected);
     assert_eq!(run, book);
     // The last two addresses before the end count through their 14 x 16.

@@ -19,11 +19,24 @@ fn every_series_is_the_books() {
         assert_eq!(run, book, "seed {seed}");
         assert_eq!(outcomes.len(), case.calls.len());
         for (call, outcome) in case.calls.iter().zip(&outcomes) {
-            *answers.entry((*call == Call::First, outcome.number)).or_default() += 1;
+            *answers
+                .entry((*call == Call::First, outcome.number))
+                .or_default() += 1;
         }
     }
-    for wanted in [(true, 0), (true, 1), (true, 34), (false, 0), (false, 2), (false, 33), (false, 34)] {
-        assert!(answers.get(&wanted).is_some_and(|&n| n > 100), "{wanted:?} of {answers:?}");
+    for wanted in [
+        (true, 0),
+        (true, 1),
+        (true, 34),
+        (false, 0),
+        (false, 2),
+        (false, 33),
+        (false, 34),
+    ] {
+        assert!(
+            answers.get(&wanted).is_some_and(|&n| n > 100),
+            "{wanted:?} of {answers:?}"
+        );
     }
 }
 
@@ -32,7 +45,9 @@ fn every_series_is_the_books() {
 fn a_series_on_profile_w() {
     use Call::{First, Next};
     let w = profile_w();
-    let calls = [Next, First, Next, Next, Next, Next, First, Next, First, Next];
+    let calls = [
+        Next, First, Next, Next, Next, Next, First, Next, First, Next,
+    ];
     let rooms = [4, 4, 5, 3, 4, 4, 3, 9, 4, 4];
     let mut buffers: Vec<Vec<u32>> = rooms.iter().map(|&n| vec![9; n]).collect();
     let outcomes = series(&ask(&w, &SHORT), &calls, &mut buffers);
@@ -47,7 +62,11 @@ fn a_series_on_profile_w() {
     assert_eq!(buffers[8], [S, P, U, Z]);
     assert_eq!(buffers[9], [S, Q, T, Z]);
     for outcome in &outcomes {
-        let expected = if outcome.number == 0 { [0, 14, 0x4160_0000] } else { [0; 3] };
+        let expected = if outcome.number == 0 {
+            [0, 14, 0x4160_0000]
+        } else {
+            [0; 3]
+        };
         assert_eq!(outcome.numbers, expected);
     }
 }

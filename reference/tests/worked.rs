@@ -20,7 +20,13 @@ fn profile_w_is_232_bytes_with_the_header_given() {
 }
 
 fn tree_of_w() -> Vec<(u32, u32, u8, u32)> {
-    vec![(0, S, 1, 14), (1, P, 1, 4), (1, Q, 1, 11), (2, T, 1, 2), (2, U, 1, 3)]
+    vec![
+        (0, S, 1, 14),
+        (1, P, 1, 4),
+        (1, Q, 1, 11),
+        (2, T, 1, 2),
+        (2, U, 1, 3),
+    ]
 }
 
 #[test]
@@ -34,7 +40,10 @@ fn the_long_form_means_the_same() {
     let w = profile_w();
     let long = [5, 8, 0, 0, 0, 0, 0xFB, 0xF1, 5, 8, 0, 0, 0, 0, 0xFB, 0xF2];
     assert_eq!(read(&w, 0, &long), read(&w, 0, &SHORT));
-    assert_eq!(read(&w, 0, &long), Ok(vec![(0, None), (1, None), (2, None)]));
+    assert_eq!(
+        read(&w, 0, &long),
+        Ok(vec![(0, None), (1, None), (2, None)])
+    );
     assert_eq!(tree(&ask(&w, &long)), (tree_of_w(), 8));
 }
 
@@ -43,8 +52,14 @@ fn three_paths_of_14_then_2() {
     let w = profile_w();
     let request = ask(&w, &SHORT);
     assert_eq!(first(&request, 4), (0, [0, 14, 0x4160_0000], SPUZ.to_vec()));
-    assert_eq!(next(&request, &SPUZ, 4), (0, [0, 14, 0x4160_0000], SQTZ.to_vec()));
-    assert_eq!(next(&request, &SQTZ, 4), (0, [0, 14, 0x4160_0000], SQUZ.to_vec()));
+    assert_eq!(
+        next(&request, &SPUZ, 4),
+        (0, [0, 14, 0x4160_0000], SQTZ.to_vec())
+    );
+    assert_eq!(
+        next(&request, &SQTZ, 4),
+        (0, [0, 14, 0x4160_0000], SQUZ.to_vec())
+    );
     assert_eq!(next(&request, &SQUZ, 4), (2, [0, 0, 0], vec![OLD; 4]));
 }
 
@@ -94,8 +109,13 @@ fn excluding_q_leaves_one() {
 #[test]
 fn an_entry_constraint_on_u() {
     let w = profile_w();
-    let include = [0x20, 4, 0xFB, 0xF1, 1, 8, 0xC0, 0, 2, 22, 32, 0, 0x20, 4, 0xFB, 0xF2];
-    assert_eq!(read(&w, 0, &include), Ok(vec![(0, None), (1, None), (2, Some(U))]));
+    let include = [
+        0x20, 4, 0xFB, 0xF1, 1, 8, 0xC0, 0, 2, 22, 32, 0, 0x20, 4, 0xFB, 0xF2,
+    ];
+    assert_eq!(
+        read(&w, 0, &include),
+        Ok(vec![(0, None), (1, None), (2, Some(U))])
+    );
     assert_eq!(listing(&ask(&w, &include), 4), totals(&[SPUZ, SQUZ], 14));
 }
 
@@ -128,7 +148,9 @@ fn reserved_as_numbers_pass_in_class_0() {
 /// Hops inside one domain from one end point of 192.0.2.0/24 to another.
 fn inner_hops(count: u32) -> Vec<Vec<u8>> {
     let node = |n: u32| 0xC000_0200 + n;
-    (0..count).map(|i| hop(0, 0, node(i / 200), node(i % 200), 0, 0)).collect()
+    (0..count)
+        .map(|i| hop(0, 0, node(i / 200), node(i % 200), 0, 0))
+        .collect()
 }
 
 #[test]
@@ -154,8 +176,11 @@ fn an_is_is_area_of_three_bytes() {
 #[test]
 fn figure_3_renumbered() {
     let area = |n: u8| [0, 0, 0, n];
-    let domains =
-        [domain(64500, 1, &area(0)), domain(64501, 1, &area(0)), domain(64501, 1, &area(4))];
+    let domains = [
+        domain(64500, 1, &area(0)),
+        domain(64501, 1, &area(0)),
+        domain(64501, 1, &area(4)),
+    ];
     let profile = file(0, &domains, &[]);
     let as_number = |low: u8| vec![5, 8, 0, 0, 0, 0, 0xFB, low];
     let ospf = |n: u8| vec![6, 8, 0, 0, 0, 0, 0, n];
@@ -168,8 +193,14 @@ fn figure_3_renumbered() {
 
     let mut out = [0xAA; 41];
     let mut numbers = [7; 2];
-    let written =
-        reference::write_list(&profile, &[0, 1, 2], &[0; 3], &[0; 3], &mut out, &mut numbers);
+    let written = reference::write_list(
+        &profile,
+        &[0, 1, 2],
+        &[0; 3],
+        &[0; 3],
+        &mut out,
+        &mut numbers,
+    );
     assert_eq!((written, numbers), (0, [0, 40]));
     assert_eq!(out[..40], long);
     assert_eq!(out[40], 0xAA);

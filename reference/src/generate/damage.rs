@@ -38,12 +38,20 @@ pub fn planned(random: &mut Random) -> Planned {
 }
 
 fn plan(bytes: Vec<u8>, number: u32, place: usize) -> Planned {
-    Planned { bytes, number, place }
+    Planned {
+        bytes,
+        number,
+        place,
+    }
 }
 
 fn cut(random: &mut Random, draft: &Draft) -> Option<Planned> {
     let mut bytes = draft.encode();
-    let length = if random.chance(1, 2) { random.below(12) } else { random.below(bytes.len()) };
+    let length = if random.chance(1, 2) {
+        random.below(12)
+    } else {
+        random.below(bytes.len())
+    };
     bytes.truncate(length);
     let number = if length < 12 { 10 } else { 13 };
     Some(plan(bytes, number, 0))
@@ -141,7 +149,9 @@ fn after_kind_0(random: &mut Random, mut draft: Draft) -> Option<Planned> {
     let kind_0 = domain_record(as_number, NO_AREA, &[]);
     if draft.domain(place).kind == NO_AREA {
         let (kind, area) = shapes::area(random);
-        draft.domains.insert(place + 1, domain_record(as_number, kind, &area));
+        draft
+            .domains
+            .insert(place + 1, domain_record(as_number, kind, &area));
     } else {
         draft.domains.insert(place, kind_0);
     }
@@ -150,7 +160,11 @@ fn after_kind_0(random: &mut Random, mut draft: Draft) -> Option<Planned> {
 
 /// One AS from the other side of the reserved ranges' edges, in its order.
 fn domain_pool(random: &mut Random, mut draft: Draft) -> Planned {
-    let wrong = if draft.live { random.pick(&RESERVED_AS) } else { random.pick(&FREE_AS) };
+    let wrong = if draft.live {
+        random.pick(&RESERVED_AS)
+    } else {
+        random.pick(&FREE_AS)
+    };
     let index = random.below(draft.domains.len());
     draft.domains[index][..4].copy_from_slice(&wrong.to_be_bytes());
     let moved = draft.domains[index];
@@ -164,7 +178,11 @@ fn hop_pool(random: &mut Random, mut draft: Draft) -> Option<Planned> {
     if draft.hops.is_empty() {
         return None;
     }
-    let wrong = if draft.live { random.pick(&RESERVED_NODES) } else { random.pick(&FREE_NODES) };
+    let wrong = if draft.live {
+        random.pick(&RESERVED_NODES)
+    } else {
+        random.pick(&FREE_NODES)
+    };
     let index = random.below(draft.hops.len());
     let at = random.pick(&[4, 8]);
     draft.hops[index][at..at + 4].copy_from_slice(&wrong.to_be_bytes());
@@ -175,7 +193,10 @@ fn hop_pool(random: &mut Random, mut draft: Draft) -> Option<Planned> {
 }
 
 fn position(records: &[Record], record: &Record) -> usize {
-    records.iter().position(|r| r == record).expect("the record is still there")
+    records
+        .iter()
+        .position(|r| r == record)
+        .expect("the record is still there")
 }
 
 fn hop_field(random: &mut Random, mut draft: Draft) -> Option<Planned> {
@@ -197,7 +218,13 @@ fn hop_field(random: &mut Random, mut draft: Draft) -> Option<Planned> {
 
 /// Infinity, NaNs, negative zero and other negative floats.
 pub const OUT_OF_RANGE: [u32; 7] = [
-    0x7F80_0000, 0x7F80_0001, 0x7FC0_0000, 0x7FFF_FFFF, 0x8000_0000, 0xFF80_0000, u32::MAX,
+    0x7F80_0000,
+    0x7F80_0001,
+    0x7FC0_0000,
+    0x7FFF_FFFF,
+    0x8000_0000,
+    0xFF80_0000,
+    u32::MAX,
 ];
 
 /// The same hop twice, with another cost, or two neighbours swapped.
@@ -240,7 +267,9 @@ fn add_nodes(random: &mut Random, draft: &mut Draft, (from, to): (usize, usize),
     let starts = shapes::nodes(random, draft.live, 3);
     for v in shapes::nodes(random, draft.live, wide) {
         let u = random.pick(&starts);
-        draft.hops.push(hop_record(&style.hop(random, from, to, u, v)));
+        draft
+            .hops
+            .push(hop_record(&style.hop(random, from, to, u, v)));
     }
     draft.hops.sort();
     draft.hops.dedup_by(|a, b| a[..12] == b[..12]);

@@ -1,9 +1,8 @@
 //! A profile as a list of records, before it is written as bytes.
 
+pub use crate::profile::Record;
 use crate::profile::{domain_of, hop_of, Domain, Hop};
 use std::collections::BTreeMap;
-
-pub type Record = [u8; 20];
 
 #[derive(Clone, Debug)]
 pub struct Draft {
@@ -35,13 +34,16 @@ impl Draft {
     }
 
     pub fn hop_list(&self) -> Vec<Hop> {
-        self.hops.iter().map(|record| hop_of(record)).collect()
+        self.hops.iter().map(hop_of).collect()
     }
 
     /// How many domains have this AS.
     pub fn domains_of(&self, as_number: u32) -> usize {
         let as_bytes = as_number.to_be_bytes();
-        self.domains.iter().filter(|record| record[..4] == as_bytes).count()
+        self.domains
+            .iter()
+            .filter(|record| record[..4] == as_bytes)
+            .count()
     }
 }
 
@@ -86,7 +88,7 @@ impl Hops {
             }
             seen.push(hop.v);
         }
-        self.hops.insert((hop.from, hop.to, hop.u, hop.v), hop);
+        self.hops.insert(hop.key(), hop);
     }
 
     pub fn len(&self) -> usize {

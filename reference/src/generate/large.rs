@@ -30,7 +30,11 @@ pub fn largest(random: &mut Random) -> Draft {
             hops.add(crossing(random, i, j, l));
         }
     }
-    Draft { live: false, domains: two_areas_each(), hops: hops.records() }
+    Draft {
+        live: false,
+        domains: two_areas_each(),
+        hops: hops.records(),
+    }
 }
 
 /// A hop of step `i`, from node `j` of domain `i` to node `l` of the next.
@@ -41,8 +45,19 @@ fn crossing(random: &mut Random, i: usize, j: usize, l: usize) -> Hop {
 
 fn step_hop(i: usize, j: usize, l: usize, cost: u32) -> Hop {
     let u = if i == 0 { SOURCE } else { entry_node(i, j) };
-    let v = if i == 15 { DESTINATION } else { entry_node(i + 1, l) };
-    Hop { from: i, to: (i + 1).min(15), u, v, cost, bandwidth: BANDWIDTH }
+    let v = if i == 15 {
+        DESTINATION
+    } else {
+        entry_node(i + 1, l)
+    };
+    Hop {
+        from: i,
+        to: (i + 1).min(15),
+        u,
+        v,
+        cost,
+        bandwidth: BANDWIDTH,
+    }
 }
 
 /// Node `j` of domain `i`, in 198.51.100.0/24 (16 sets of 16).
@@ -56,14 +71,18 @@ fn two_areas_each() -> Vec<[u8; 20]> {
         .chain(65_536..65_552)
         .flat_map(|as_number| {
             let is_is = [0x49, 0, 1, 0, 0, 0, 0, 0, 0, 0, 0, 0, 7];
-            [domain_record(as_number, OSPF, &[0; 4]), domain_record(as_number, IS_IS, &is_is)]
+            [
+                domain_record(as_number, OSPF, &[0; 4]),
+                domain_record(as_number, IS_IS, &is_is),
+            ]
         })
         .collect()
 }
 
 /// How many entry nodes each of D1 to D15 has in the profile of equal paths.
-/// 16 for each would make 2^60 paths but take 3,616 hops; these take exactly
-/// 3,000 and make 16^2 x 15^6 x 14^7 paths, a little above 2^58.
+/// 16 for each would make 2^60 paths but take 3,616 hops. These take exactly
+/// 3,000 and make 16^2 x 15^6 x 14^7 paths, a little above 2^58: the most there
+/// can be when every node of a domain leads to every node of the next.
 pub const EQUAL_PATHS_WIDTHS: [usize; 15] =
     [16, 14, 15, 14, 15, 14, 15, 14, 15, 14, 15, 14, 15, 14, 16];
 
@@ -79,8 +98,14 @@ pub fn equal_paths() -> Draft {
             }
         }
     }
-    let domains = (64_496..64_512).map(|as_number| domain_record(as_number, 0, &[])).collect();
-    Draft { live: false, domains, hops: hops.records() }
+    let domains = (64_496..64_512)
+        .map(|as_number| domain_record(as_number, 0, &[]))
+        .collect();
+    Draft {
+        live: false,
+        domains,
+        hops: hops.records(),
+    }
 }
 
 /// The request that crosses all 16 domains of either profile.

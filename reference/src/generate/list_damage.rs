@@ -64,13 +64,13 @@ fn spoiled_area(random: &mut Random) -> Piece {
     let length = random.between(1, 13);
     let whole = 4 + length.div_ceil(4) * 4;
     let mut piece = vec![7, whole as u8, length as u8, 0];
-    piece.extend(std::iter::repeat(0x49).take(length));
+    piece.extend(std::iter::repeat_n(0x49, length));
     piece.resize(whole, 0);
     match random.below(5) {
         0 => piece[2] = random.pick(&[0, 14, 15, 255]),
         1 => piece[1] = other_length(random, whole as u8),
         2 => piece[2] = random.between(1, 13) as u8,
-        _ if length % 4 != 0 => piece[random.between(4 + length, whole - 1)] = 1,
+        _ if length < whole - 4 => piece[random.between(4 + length, whole - 1)] = 1,
         _ => piece[2] -= 1,
     }
     piece

@@ -6,21 +6,26 @@ use super::lists::{area_piece, as_piece, route, Include, Piece};
 use super::random::Random;
 use super::shapes;
 
-/// An include list and what reading it must give: the domains with their
-/// entry constraints, or number and place.
+/// The domains with their entry constraints, or number and place.
+pub type Reading = Result<Vec<(u16, Option<u32>)>, (u32, u32)>;
+
+/// An include list and what reading it must give.
 #[derive(Clone, Debug)]
 pub struct PlannedInclude {
     pub profile: Vec<u8>,
     pub ingress: u16,
     pub include: Vec<u8>,
-    pub expected: Result<Vec<(u16, Option<u32>)>, (u32, u32)>,
+    pub expected: Reading,
 }
 
 pub fn planned(random: &mut Random) -> PlannedInclude {
     let draft = shapes::valid(random);
     let ingress = random.below(draft.domains.len());
-    let most = random.between(1, 16);
-    let route = route(random, &draft, ingress, most);
+    let most = random.between(1, 20).min(16);
+    let route = match random.chance(1, 2) {
+        true => route(random, &draft, ingress, most),
+        false => any_route(random, &draft, ingress, most),
+    };
     let mut include = Include::new(&draft, ingress);
     include.follow(random, &route);
     let fault = match random.below(3) {
@@ -28,14 +33,33 @@ pub fn planned(random: &mut Random) -> PlannedInclude {
         1 => fault_in_form(random, &mut include.pieces),
         _ => fault_in_meaning(random, &mut include, &route),
     };
-    let sequence = route.iter().zip(&include.entries).map(|(&d, &entry)| (d as u16, entry));
+    let sequence = route
+        .iter()
+        .zip(&include.entries)
+        .map(|(&d, &entry)| (d as u16, entry));
     let expected = match fault {
         Some((number, offset)) => Err((number, offset as u32)),
         None => Ok(sequence.collect()),
     };
     let include = include.pieces.concat();
-    let expected = if include.len() > 1024 { Err((22, 0)) } else { expected };
-    PlannedInclude { profile: draft.encode(), ingress: ingress as u16, include, expected }
+    let expected = if include.len() > 1024 {
+        Err((22, 0))
+    } else {
+        expected
+    };
+    PlannedInclude {
+        profile: draft.encode(),
+        ingress: ingress as u16,
+        include,
+        expected,
+    }
+}
+
+/// Different domains from `ingress` on, whether or not hops join them.
+fn any_route(random: &mut Random, draft: &Draft, ingress: usize, most: usize) -> Vec<usize> {
+    let others = shapes::shuffled(random, draft.domains.len());
+    let others = others.into_iter().filter(|&domain| domain != ingress);
+    [ingress].into_iter().chain(others).take(most).collect()
 }
 
 /// Where the piece `index` begins.
@@ -97,7 +121,7 @@ fn fault_in_meaning(
     route: &[usize],
 ) -> Option<(u32, usize)> {
     let offset = offset_of(&include.pieces, include.pieces.len());
-    match random.below(7) {
+    match random.below(8) {
         0 => unknown_as(random, include, offset),
         1 => unknown_area(random, include, offset),
         2 => as_of_several(random, include, offset),
@@ -106,11 +130,11 @@ fn fault_in_meaning(
             let again = (!earlier.is_empty()).then(|| random.pick(earlier));
             name_wrongly(random, include, again, 30)
         }
-        4 if route.len() == 16 => {
+        4..=5 if route.len() == 16 => {
             let fresh = (0..include.draft.domains.len()).find(|d| !route.contains(d));
             name_wrongly(random, include, fresh, 31)
         }
-        5 => {
+        6 => {
             include.constrain(random, 1);
             include.name_again(random);
             let second = offset_of(&include.pieces, include.pieces.len());
@@ -151,7 +175,10 @@ fn unknown_as(random: &mut Random, include: &mut Include, offset: usize) -> Opti
 
 /// An AS of the profile with an area it lacks.
 fn unknown_area(random: &mut Random, include: &mut Include, offset: usize) -> Option<(u32, usize)> {
-    let known = include.draft.domain(random.below(include.draft.domains.len())).as_number;
+    let known = include
+        .draft
+        .domain(random.below(include.draft.domains.len()))
+        .as_number;
     let piece = as_piece(random, known);
     let after = offset + piece.len();
     include.pieces.push(piece);
@@ -160,7 +187,11 @@ fn unknown_area(random: &mut Random, include: &mut Include, offset: usize) -> Op
     Some((28, after))
 }
 
-fn as_of_several(random: &mut Random, include: &mut Include, offset: usize) -> Option<(u32, usize)> {
+fn as_of_several(
+    random: &mut Random,
+    include: &mut Include,
+    offset: usize,
+) -> Option<(u32, usize)> {
     let several = first_as_of_several(include.draft)?;
     include.pieces.push(as_piece(random, several));
     Some((29, offset))
@@ -168,5 +199,7 @@ fn as_of_several(random: &mut Random, include: &mut Include, offset: usize) -> O
 
 fn first_as_of_several(draft: &Draft) -> Option<u32> {
     let numbers = (0..draft.domains.len()).map(|i| draft.domain(i).as_number);
-    numbers.into_iter().find(|&as_number| draft.domains_of(as_number) > 1)
+    numbers
+        .into_iter()
+        .find(|&as_number| draft.domains_of(as_number) > 1)
 }

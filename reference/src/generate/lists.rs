@@ -18,11 +18,11 @@ fn ignored(random: &mut Random) -> u8 {
     }
 }
 
-pub fn address_piece(random: &mut Random, address: u32, prefix: u8, last: u8) -> Piece {
+/// An address; `last` is the attribute in an exclude list.
+fn address_piece(address: u32, prefix: u8, last: u8) -> Piece {
     let mut piece = vec![1, 8];
     piece.extend(address.to_be_bytes());
-    piece.push(prefix);
-    piece.push(if random.chance(1, 8) && prefix == 32 && last == 0 { random.byte() } else { last });
+    piece.extend([prefix, last]);
     piece
 }
 
@@ -73,7 +73,13 @@ impl<'a> Include<'a> {
     pub fn new(draft: &'a Draft, ingress: usize) -> Include<'a> {
         let current_as = draft.domain(ingress).as_number;
         let entries = vec![None];
-        Include { draft, pieces: Vec::new(), entries, current_as, here: ingress }
+        Include {
+            draft,
+            pieces: Vec::new(),
+            entries,
+            current_as,
+            here: ingress,
+        }
     }
 
     /// Names `domain` in one of the ways that are right for it.
@@ -103,8 +109,8 @@ impl<'a> Include<'a> {
     }
 
     pub fn constrain(&mut self, random: &mut Random, address: u32) {
-        let piece = address_piece(random, address, 32, 0);
-        self.pieces.push(piece);
+        let last = ignored(random);
+        self.pieces.push(address_piece(address, 32, last));
     }
 
     /// The way to all of `route` after the ingress, with entry constraints on
@@ -155,13 +161,18 @@ pub fn route(random: &mut Random, draft: &Draft, ingress: usize, most: usize) ->
     let length = random.between(most.div_ceil(2), most);
     while route.len() < length {
         let here = route[route.len() - 1];
-        let mut onward: Vec<usize> =
-            hops.iter().filter(|hop| hop.from == here).map(|hop| hop.to).collect();
+        let mut onward: Vec<usize> = hops
+            .iter()
+            .filter(|hop| hop.from == here)
+            .map(|hop| hop.to)
+            .collect();
         onward.retain(|domain| !route.contains(domain));
         // Now and then on to a domain that no hop leads to.
         let stuck = onward.is_empty();
         if (stuck && random.chance(1, 4)) || random.chance(1, 100) {
-            onward = (0..draft.domains.len()).filter(|d| !route.contains(d)).collect();
+            onward = (0..draft.domains.len())
+                .filter(|d| !route.contains(d))
+                .collect();
         }
         if onward.is_empty() {
             break;
@@ -189,7 +200,7 @@ pub fn write_route(draft: &Draft, route: &[usize]) -> Vec<u8> {
         bytes.extend(domain.area);
         if domain.kind == IS_IS {
             let padding = domain.area.len().div_ceil(4) * 4 - domain.area.len();
-            bytes.extend(std::iter::repeat(0).take(padding));
+            bytes.extend(std::iter::repeat_n(0, padding));
         }
     }
     bytes
@@ -242,6 +253,10 @@ fn exclude_address(random: &mut Random, draft: &Draft) -> Piece {
         _ => 32,
     };
     // Bits after the prefix are ignored, so they may be anything.
-    let noise = if prefix < 32 { random.bits() >> prefix } else { 0 };
-    address_piece(random, address ^ noise, prefix, 1)
+    let noise = if prefix < 32 {
+        random.bits() >> prefix
+    } else {
+        0
+    };
+    address_piece(address ^ noise, prefix, 1)
 }

@@ -14,8 +14,8 @@ mod shapes;
 mod writing;
 
 pub use damage::Planned;
-pub use list_plan::PlannedInclude;
 pub use large::EQUAL_PATHS_WIDTHS;
+pub use list_plan::{PlannedInclude, Reading};
 pub use random::Random;
 pub use requests::{NextCase, RequestCase, SeriesCase};
 pub use writing::WriteCase;

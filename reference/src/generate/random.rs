@@ -8,12 +8,14 @@ pub struct Random {
 impl Random {
     /// `stream` keeps the kinds of cases apart that start from one seed.
     pub fn new(seed: u64, stream: u64) -> Random {
-        let mut random = Random { state: seed ^ stream.wrapping_mul(0xD6E8_FEB8_6659_FD93) };
-        random.next();
+        let mut random = Random {
+            state: seed ^ stream.wrapping_mul(0xD6E8_FEB8_6659_FD93),
+        };
+        random.step();
         random
     }
 
-    pub fn next(&mut self) -> u64 {
+    pub fn step(&mut self) -> u64 {
         self.state = self.state.wrapping_add(0x9E37_79B9_7F4A_7C15);
         let mut z = self.state;
         z = (z ^ (z >> 30)).wrapping_mul(0xBF58_476D_1CE4_E5B9);
@@ -24,7 +26,7 @@ impl Random {
     /// A number below `limit`, which is above 0. The bias is far too small to
     /// matter for making cases.
     pub fn below(&mut self, limit: usize) -> usize {
-        (self.next() % limit as u64) as usize
+        (self.step() % limit as u64) as usize
     }
 
     /// A number from `low` to `high`, both included.
@@ -38,11 +40,11 @@ impl Random {
     }
 
     pub fn bits(&mut self) -> u32 {
-        self.next() as u32
+        self.step() as u32
     }
 
     pub fn byte(&mut self) -> u8 {
-        self.next() as u8
+        self.step() as u8
     }
 
     /// One of `choices`, which isn't empty.

@@ -135,9 +135,15 @@ fn accepted_mostly(random: &mut Random, draft: &Draft) -> RequestCase {
 /// The longest of a few routes, because short ones have few paths. Mostly it
 /// is cut back to a domain in which a path can end.
 fn long_route(random: &mut Random, draft: &Draft) -> Vec<usize> {
-    let most = random.pick(&[1, 3, 4, 6, 16, 16, 16, 16]).min(draft.domains.len());
-    let ends: Vec<usize> =
-        draft.hop_list().iter().filter(|hop| hop.from == hop.to).map(|hop| hop.from).collect();
+    let most = random
+        .pick(&[1, 3, 4, 6, 16, 16, 16, 16])
+        .min(draft.domains.len());
+    let ends: Vec<usize> = draft
+        .hop_list()
+        .iter()
+        .filter(|hop| hop.from == hop.to)
+        .map(|hop| hop.from)
+        .collect();
     let cut_back = random.chance(4, 5);
     let mut longest = Vec::new();
     for _ in 0..10 {
@@ -159,7 +165,10 @@ fn end_points(random: &mut Random, draft: &Draft, route: &[usize]) -> (u32, u32)
     let (source, destination) = joined.unwrap_or_else(|| {
         let to = *route.get(1).unwrap_or(&route[0]);
         let last = route[route.len() - 1];
-        (entry_node(random, draft, route[0], to), entry_node(random, draft, last, last))
+        (
+            entry_node(random, draft, route[0], to),
+            entry_node(random, draft, last, last),
+        )
     });
     match random.below(25) {
         0 => (random.bits(), destination),
@@ -178,7 +187,7 @@ fn joined_ends(random: &mut Random, draft: &Draft, route: &[usize]) -> Option<(u
         let onward: Vec<(u32, u32)> = hops
             .iter()
             .filter(|hop| hop.from == from && hop.to == to)
-            .filter(|hop| ends.map_or(true, |(_, here)| here == hop.u))
+            .filter(|hop| ends.is_none_or(|(_, here)| here == hop.u))
             .map(|hop| (hop.u, hop.v))
             .collect();
         if onward.is_empty() {
@@ -211,7 +220,10 @@ fn bandwidth(random: &mut Random, draft: &Draft) -> u32 {
 
 /// A bound at, just below or just above the least total, or any other.
 fn set_bound(random: &mut Random, case: &mut RequestCase) {
-    let least = case.question().ok().and_then(|q| ShortestPaths::new(&q).total());
+    let least = case
+        .question()
+        .ok()
+        .and_then(|q| ShortestPaths::new(&q).total());
     let exact = bits_of_whole(least.unwrap_or(10));
     case.bound_counts = true;
     case.bound_bits = match random.below(10) {
@@ -246,12 +258,10 @@ fn lend(random: &mut Random, case: &mut RequestCase) {
     case.path = random.words(path);
     // The four buffers of a tree mostly go together; sometimes one is short.
     let common = random.capacity(tree);
-    let odd = if random.chance(1, 6) { random.below(4) } else { 4 };
-    let size = |i: usize, random: &mut Random| match i == odd {
-        true => random.capacity(tree),
-        false => common,
-    };
-    let sizes = [size(0, random), size(1, random), size(2, random), size(3, random)];
+    let mut sizes = [common; 4];
+    if random.chance(1, 6) {
+        sizes[random.below(4)] = random.capacity(tree);
+    }
     case.level = random.words(sizes[0]);
     case.address = random.words(sizes[1]);
     case.reachable = random.bytes(sizes[2]);
@@ -265,7 +275,11 @@ pub fn with_given(random: &mut Random, request: RequestCase) -> NextCase {
         Err(_) => random.words(4),
     };
     let path = random.capacity(given.len());
-    NextCase { given, path: random.words(path), request }
+    NextCase {
+        given,
+        path: random.words(path),
+        request,
+    }
 }
 
 /// A shortest path, something near one, a list of entry nodes, or anything.
@@ -274,7 +288,7 @@ fn given_list(random: &mut Random, question: &Question) -> Vec<u32> {
     let paths = ShortestPaths::new(question);
     let listed = match paths.count() {
         0 => None,
-        count => paths.at(u128::from(random.next()) % count),
+        count => paths.at(u128::from(random.step()) % count),
     };
     let mut given = listed.unwrap_or_else(|| entry_list(random, question));
     match random.below(12) {
@@ -282,8 +296,8 @@ fn given_list(random: &mut Random, question: &Question) -> Vec<u32> {
         4..=5 => given = entry_list(random, question),
         6..=8 => {
             let at = random.below(length);
-            let step = random.pick(&[1, u32::MAX, u32::MAX, 0_u32.wrapping_sub(256), 256]);
-            given[at] = given[at].wrapping_add(step);
+            let step = random.pick(&[1, -1, -1, 256, -256]);
+            given[at] = given[at].wrapping_add_signed(step);
         }
         9 => given = random.words(length),
         10 => given = vec![random.pick(&[0, u32::MAX, question.source]); length],
@@ -312,7 +326,9 @@ fn entry_list(random: &mut Random, question: &Question) -> Vec<u32> {
 
 /// A request and calls for first and next in any order.
 pub fn with_calls(random: &mut Random, request: RequestCase) -> SeriesCase {
-    let length = request.question().map_or(4, |question| question.path_length());
+    let length = request
+        .question()
+        .map_or(4, |question| question.path_length());
     let count = random.between(0, 24);
     let firsts = random.pick(&[1, 1, 2, 6]);
     let mut calls = Vec::new();
@@ -324,5 +340,9 @@ pub fn with_calls(random: &mut Random, request: RequestCase) -> SeriesCase {
         let capacity = random.capacity(length);
         buffers.push(random.words(capacity));
     }
-    SeriesCase { request, calls, buffers }
+    SeriesCase {
+        request,
+        calls,
+        buffers,
+    }
 }

@@ -8,8 +8,16 @@ use crate::reserved;
 use std::collections::{BTreeMap, BTreeSet};
 
 /// Float bits that hops often have, so that requests meet them exactly.
-const BANDWIDTHS: [u32; 8] =
-    [0, 1, 0x42C8_0000, 0x447A_0000, 0x447A_0001, 0x7F7F_FFFF, 0x0080_0000, 0x3F80_0000];
+const BANDWIDTHS: [u32; 8] = [
+    0,
+    1,
+    0x42C8_0000,
+    0x447A_0000,
+    0x447A_0001,
+    0x7F7F_FFFF,
+    0x0080_0000,
+    0x3F80_0000,
+];
 
 /// AS numbers at the edges of the reserved ranges, outside them.
 pub const FREE_AS: [u32; 8] = [0, 1, 64_495, 64_512, 65_535, 65_552, 100, u32::MAX];
@@ -19,12 +27,25 @@ pub const RESERVED_AS: [u32; 4] = [64_496, 64_511, 65_536, 65_551];
 
 /// Addresses at the edges of the reserved ranges, outside them.
 pub const FREE_NODES: [u32; 8] = [
-    0xC000_01FF, 0xC000_0300, 0xC633_63FF, 0xC633_6500, 0xCB00_70FF, 0xCB00_7200, 0, u32::MAX,
+    0xC000_01FF,
+    0xC000_0300,
+    0xC633_63FF,
+    0xC633_6500,
+    0xCB00_70FF,
+    0xCB00_7200,
+    0,
+    u32::MAX,
 ];
 
 /// Addresses at the edges of the reserved ranges, inside them.
-pub const RESERVED_NODES: [u32; 6] =
-    [0xC000_0200, 0xC000_02FF, 0xC633_6400, 0xC633_64FF, 0xCB00_7100, 0xCB00_71FF];
+pub const RESERVED_NODES: [u32; 6] = [
+    0xC000_0200,
+    0xC000_02FF,
+    0xC633_6400,
+    0xC633_64FF,
+    0xCB00_7100,
+    0xCB00_71FF,
+];
 
 /// A valid profile: mostly small ones in which paths exist.
 pub fn valid(random: &mut Random) -> Draft {
@@ -68,14 +89,20 @@ fn dense(random: &mut Random) -> Draft {
             }
         }
     }
-    Draft { live, domains: domains(random, live, count), hops: hops.records() }
+    Draft {
+        live,
+        domains: domains(random, live, count),
+        hops: hops.records(),
+    }
 }
 
 /// Domains one after the other, each with its own entry nodes; in most of
 /// them a path can end.
 fn chain(random: &mut Random, most_domains: usize, most_nodes: usize) -> Draft {
     let live = random.chance(1, 2);
-    let count = random.between(1, most_domains).max(random.between(1, most_domains));
+    let count = random
+        .between(1, most_domains)
+        .max(random.between(1, most_domains));
     let order = shuffled(random, count);
     let style = Style::new(random);
     let ends = nodes(random, live, 2);
@@ -92,7 +119,11 @@ fn chain(random: &mut Random, most_domains: usize, most_nodes: usize) -> Draft {
             here = there;
         }
     }
-    Draft { live, domains: domains(random, live, count), hops: hops.records() }
+    Draft {
+        live,
+        domains: domains(random, live, count),
+        hops: hops.records(),
+    }
 }
 
 /// Most of the hops from each of `here` to each of `there`.
@@ -123,18 +154,30 @@ fn scattered(random: &mut Random, most_domains: usize, most_hops: usize) -> Draf
     let mut hops = Hops::default();
     for _ in 0..random.between(0, most_hops) {
         let from = random.below(count);
-        let to = if random.chance(1, 4) { from } else { random.below(count) };
+        let to = if random.chance(1, 4) {
+            from
+        } else {
+            random.below(count)
+        };
         let (u, v) = (random.pick(&nodes), random.pick(&nodes));
         hops.add(style.hop(random, from, to, u, v));
     }
-    Draft { live, domains: domains(random, live, count), hops: hops.records() }
+    Draft {
+        live,
+        domains: domains(random, live, count),
+        hops: hops.records(),
+    }
 }
 
 /// Domains and no hop at all.
 fn bare(random: &mut Random) -> Draft {
     let live = random.chance(1, 2);
     let count = random.between(1, 64);
-    Draft { live, domains: domains(random, live, count), hops: Vec::new() }
+    Draft {
+        live,
+        domains: domains(random, live, count),
+        hops: Vec::new(),
+    }
 }
 
 /// What the costs and bandwidths of one profile look like.
@@ -147,7 +190,10 @@ impl Style {
     pub fn new(random: &mut Random) -> Style {
         let most_cost = random.pick(&[0, 0, 1, 1, 2, 3, 9, 65_535]);
         let fixed = random.pick(&BANDWIDTHS);
-        Style { most_cost, fixed_bandwidth: random.chance(1, 2).then_some(fixed) }
+        Style {
+            most_cost,
+            fixed_bandwidth: random.chance(1, 2).then_some(fixed),
+        }
     }
 
     pub fn hop(&self, random: &mut Random, from: usize, to: usize, u: u32, v: u32) -> Hop {
@@ -157,14 +203,25 @@ impl Style {
             None if random.chance(1, 10) => random.bits() % 0x7F80_0000,
             None => random.pick(&BANDWIDTHS),
         };
-        Hop { from, to, u, v, cost, bandwidth }
+        Hop {
+            from,
+            to,
+            u,
+            v,
+            cost,
+            bandwidth,
+        }
     }
 }
 
 /// `count` domain records in order, of one AS or of many.
 pub fn domains(random: &mut Random, live: bool, count: usize) -> Vec<Record> {
     // The reserved AS numbers are 32, so more domains than that need areas.
-    let plain_share = if count > 20 { random.below(2) } else { random.below(5) };
+    let plain_share = if count > 20 {
+        random.below(2)
+    } else {
+        random.below(5)
+    };
     let spread = random.pick(&[3, 40]);
     let mut plain: BTreeMap<u32, bool> = BTreeMap::new();
     let mut records = BTreeSet::new();
@@ -201,11 +258,17 @@ fn as_number(random: &mut Random, live: bool, spread: usize) -> u32 {
 /// share areas.
 pub fn area(random: &mut Random) -> (u8, Vec<u8>) {
     if random.chance(1, 2) {
-        let area = if random.chance(9, 10) { random.below(6) as u32 } else { random.bits() };
+        let area = if random.chance(9, 10) {
+            random.below(6) as u32
+        } else {
+            random.bits()
+        };
         return (OSPF, area.to_be_bytes().to_vec());
     }
     let length = random.between(1, 13);
-    let bytes = (0..length).map(|_| random.pick(&[0x49, 0, 0, 1, 0xFF])).collect();
+    let bytes = (0..length)
+        .map(|_| random.pick(&[0x49, 0, 0, 1, 0xFF]))
+        .collect();
     (IS_IS, bytes)
 }
 
@@ -228,7 +291,11 @@ pub fn nodes(random: &mut Random, live: bool, count: usize) -> Vec<u32> {
 /// A number outside the reserved ranges.
 fn free(random: &mut Random, is_reserved: fn(u32) -> bool) -> u32 {
     loop {
-        let value = if random.chance(1, 2) { random.bits() } else { random.bits() % 65_536 };
+        let value = if random.chance(1, 2) {
+            random.bits()
+        } else {
+            random.bits() % 65_536
+        };
         if !is_reserved(value) {
             return value;
         }

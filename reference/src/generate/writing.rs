@@ -23,11 +23,15 @@ pub fn valid(random: &mut Random) -> WriteCase {
     let ingress = random.below(draft.domains.len());
     let route = match random.chance(1, 2) {
         true => route(random, &draft, ingress, 16),
-        false => shapes::shuffled(random, draft.domains.len()).into_iter().take(16).collect(),
+        false => shapes::shuffled(random, draft.domains.len())
+            .into_iter()
+            .take(16)
+            .collect(),
     };
     let constrained = random.between(0, 4);
-    let pinned: Vec<u8> =
-        (0..route.len()).map(|i| u8::from(i > 0 && random.chance(constrained, 4))).collect();
+    let pinned: Vec<u8> = (0..route.len())
+        .map(|i| u8::from(i > 0 && random.chance(constrained, 4)))
+        .collect();
     // What stands where there is no entry constraint is not looked at.
     let pins = (0..route.len())
         .map(|i| entry_node(random, &draft, route[i.saturating_sub(1)], route[i]))

@@ -1,6 +1,7 @@
 //! Document 01's profile W, written out by hand, and short ways to call.
 #![allow(dead_code)]
 
+use reference::generate::Reading;
 use reference::Request;
 
 pub const S: u32 = 0xC000_0201;
@@ -52,7 +53,11 @@ pub fn file(class: u8, domains: &[Vec<u8>], hops: &[Vec<u8>]) -> Vec<u8> {
 }
 
 pub fn profile_w() -> Vec<u8> {
-    let domains = [domain(64496, 0, &[]), domain(64497, 0, &[]), domain(64498, 0, &[])];
+    let domains = [
+        domain(64496, 0, &[]),
+        domain(64497, 0, &[]),
+        domain(64498, 0, &[]),
+    ];
     let hops = [
         hop(0, 1, S, P, 10, B1000),
         hop(0, 1, S, Q, 3, B1000),
@@ -105,7 +110,10 @@ pub fn listing(request: &Request, length: usize) -> Vec<(Vec<u32>, u32)> {
         (number, numbers, path) = next(request, &path.clone(), length);
     }
     let expected_end = if found.is_empty() { 1 } else { 2 };
-    assert_eq!((number, numbers, path), (expected_end, [0; 3], vec![OLD; length]));
+    assert_eq!(
+        (number, numbers, path),
+        (expected_end, [0; 3], vec![OLD; length])
+    );
     found
 }
 
@@ -115,30 +123,48 @@ pub fn tree(request: &Request) -> (Vec<(u32, u32, u8, u32)>, u32) {
     let mut reachable = vec![0xAA; 300];
     let mut numbers = [7; 3];
     let number = reference::tree(
-        request, &mut level, &mut address, &mut reachable, &mut cost, &mut numbers,
+        request,
+        &mut level,
+        &mut address,
+        &mut reachable,
+        &mut cost,
+        &mut numbers,
     );
     assert_eq!((number, numbers[0]), (0, 0));
     let count = numbers[1] as usize;
     let past = (level[count], address[count], reachable[count], cost[count]);
     assert_eq!(past, (OLD, OLD, 0xAA, OLD), "past the result");
-    let entries = (0..count).map(|i| (level[i], address[i], reachable[i], cost[i])).collect();
+    let entries = (0..count)
+        .map(|i| (level[i], address[i], reachable[i], cost[i]))
+        .collect();
     (entries, numbers[2])
 }
 
 /// The sequence with its entry constraints, or number and place.
-pub fn read(profile: &[u8], ingress: u16, include: &[u8]) -> Result<Vec<(u16, Option<u32>)>, (u32, u32)> {
+pub fn read(profile: &[u8], ingress: u16, include: &[u8]) -> Reading {
     let (mut domains, mut pinned, mut pins) = ([0xAAAA; 16], [0xAA; 16], [OLD; 16]);
     let mut numbers = [7; 2];
     let number = reference::read_include(
-        profile, ingress, include, &mut domains, &mut pinned, &mut pins, &mut numbers,
+        profile,
+        ingress,
+        include,
+        &mut domains,
+        &mut pinned,
+        &mut pins,
+        &mut numbers,
     );
     if number != 0 {
         assert_eq!(numbers[1], 0);
-        assert_eq!((domains, pinned, pins), ([0xAAAA; 16], [0xAA; 16], [OLD; 16]));
+        assert_eq!(
+            (domains, pinned, pins),
+            ([0xAAAA; 16], [0xAA; 16], [OLD; 16])
+        );
         return Err((number, numbers[0]));
     }
     let count = numbers[1] as usize;
-    Ok((0..count).map(|i| (domains[i], (pinned[i] == 1).then_some(pins[i]))).collect())
+    Ok((0..count)
+        .map(|i| (domains[i], (pinned[i] == 1).then_some(pins[i])))
+        .collect())
 }
 
 pub fn check(profile: &[u8]) -> (u32, u32) {
