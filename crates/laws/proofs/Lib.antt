@@ -23,3 +23,11 @@ pub mod Allowed
 pub mod PathsAreThePaths
 pub mod AcceptedRequest
 pub mod AcceptedPaths
+pub mod Least
+pub mod Reach
+pub mod TreeLeast
+pub mod Picks
+pub mod Firsts
+pub mod Cheapest
+pub mod Split
+pub mod NextSplit
