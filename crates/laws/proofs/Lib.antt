@@ -31,3 +31,12 @@ pub mod Firsts
 pub mod Cheapest
 pub mod Split
 pub mod NextSplit
+pub mod Numbers
+pub mod Subobjects
+pub mod AreaLengths
+pub mod WrittenForm
+pub mod SoundDomains
+pub mod WrittenItems
+pub mod NumberLists
+pub mod ReadItems
+pub mod ReadsBack

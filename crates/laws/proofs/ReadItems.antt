@@ -1,0 +1,205 @@
+-- Reading what was written for a sequence gives the sequence: the AS and the area written for a domain name that domain and no other, so each stop is
+-- entered in its turn, with its entry constraint. By recursion along the sequence, over the state that the reading is in.
+use Prim.Native.Nat.{ℕ, zero, suc, _+_, _≤_, _<_}
+use native.Mathlib.Omega.{arith}
+use mathlib.Core.Path.{_≡_, refl, sym, ap, _∙_}
+use mathlib.Core.Bool.{Bool, true, false, _&&_, true≢false, false≢true}
+use mathlib.Core.List.{List, [], _∷_, _++_, append-nil, append-assoc}
+use mathlib.Core.Option.{Option, none, some}
+use lib.ListN.{length, length-append}
+use lib.Dec.{eqb}
+use borrow.Author.Tests.{eqb-true, eq-eqb, ne-eqb, lt-leb}
+use Rattle.model.specs.declared.Domain.{Domain}
+use Rattle.model.specs.Lists.{among, allDifferent, same}
+use Rattle.model.specs.Subobject.{Subobject}
+use Rattle.model.specs.Sequence.{Stop, Waiting, State, Reading, good, continue, domainOf, hasArea, ofSystem, ofArea, pinOf, added, domainsOf, enter, name, withSystem, areaNext, readSystem, readOne, readAll, startIn, meaning}
+use Rattle.model.specs.WrittenList.{written}
+use Rattle.laws.proofs.Tests.{and-both, both-and, clash}
+use Rattle.laws.proofs.Lists.{map-append}
+use Rattle.laws.proofs.NumberLists.{keep-one, same-equal, same-self, different-fresh, different-behind, among-last, different-next}
+use Rattle.laws.proofs.Subobjects.{Item, placed}
+use Rattle.laws.proofs.WrittenForm.{areaOf, areaItem, systemItem, pinItem}
+use Rattle.laws.proofs.WrittenItems.{pinItems, systemItems, areaItems, domainItems, itemsFrom, Writable, written-subobjects}
+use Rattle.laws.proofs.SoundDomains.{SoundDomains}
+
+-- ---- entering a domain
+
+enter-here : (o : ℕ) (st : State) (d : ℕ) → d ≡ st .here → enter o st d ≡ good st
+unfolding enter
+enter-here o st d e = rw (eq-eqb d (st .here) e)
+
+enter-new
+    : (o : ℕ) (st : State) (d : ℕ)
+    → (d ≡ st .here → ⊥)
+    → among d (domainsOf (st .sequence)) ≡ false
+    → length (st .sequence) < 16
+    → enter o st d ≡ good (added st d)
+unfolding enter
+enter-new o st d away fresh room = rw (ne-eqb d (st .here) away, fresh, lt-leb 16 (length (st .sequence)) room)
+
+-- ---- naming a domain
+
+module _ (ds : List Domain) (sound : SoundDomains ds) where
+  -- an AS with a record of kind 0 names that domain
+  system-names : (d : ℕ) → d < length ds → (domainOf ds d) .kind ≡ 0 → ofSystem ds ((domainOf ds d) .asn) ≡ d ∷ []
+  unfolding ofSystem
+  system-names d h k =
+      let n = (domainOf ds d) .asn in
+      keep-one (λ (i : ℕ). eqb ((domainOf ds i) .asn) n) 0 (length ds) d (omega arith) (omega arith) (eq-eqb n n refl)
+      (λ i l t. sym (sound .alone d i h (omega arith) k (sym (eqb-true ((domainOf ds i) .asn) n t))))
+
+  -- an area in its AS names the domain that has it
+  area-names : (d : ℕ) → d < length ds → ofArea ds ((domainOf ds d) .asn) (areaOf (domainOf ds d)) ≡ d ∷ []
+  unfolding ofArea
+  area-names d h =
+      let D = domainOf ds d in
+      keep-one (λ (i : ℕ). eqb ((domainOf ds i) .asn) (D .asn) && hasArea (areaOf D) (domainOf ds i)) 0 (length ds) d (omega arith) (omega arith)
+      (both-and (eqb (D .asn) (D .asn)) (hasArea (areaOf D) D) (eq-eqb (D .asn) (D .asn) refl)
+      (both-and (eqb (D .kind) (D .kind)) (same (areaOf D .bytes) (areaOf D .bytes)) (eq-eqb (D .kind) (D .kind) refl) (same-self (areaOf D .bytes))))
+      (λ i l t.
+      let I = domainOf ds i in
+      let x = and-both (eqb (I .asn) (D .asn)) (hasArea (areaOf D) I) t in
+      let y = and-both (eqb (I .kind) (D .kind)) (same (areaOf I .bytes) (areaOf D .bytes)) (x .1) in
+      sound .distinct i d (omega arith) h (eqb-true (I .asn) (D .asn) (x .0)) (eqb-true (I .kind) (D .kind) (y .0)) (same-equal (areaOf I .bytes) (areaOf D .bytes) (y .1)))
+
+  -- What is written for a domain, read in a state: its AS is set, and the domain entered. The AS may be left out where it is the current one and the
+  -- domain has an area; where it has none, no area comes next.
+  module _ (st st′ : State) (d : ℕ) (inside : d < length ds) (tail : List Item) (result : Reading (List Stop))
+      (enters : (o : ℕ) → enter o (withSystem st ((domainOf ds d) .asn)) d ≡ good st′)
+      (next : (o : ℕ) → readAll ds (placed o tail) st′ ≡ result)
+      (calm : (domainOf ds d) .kind ≡ 0 → (o : ℕ) → areaNext (placed o tail) ≡ false) where
+    by-name : (names : List ℕ) → names ≡ d ∷ [] → (o later : ℕ) → continue (name o (withSystem st ((domainOf ds d) .asn)) names) (λ (s : State). readAll ds (placed later tail) s) ≡ result
+    unfolding name
+    by-name names e o later =
+        let on : State → Reading (List Stop) = λ (s : State). readAll ds (placed later tail) s in
+        ap (λ (l : List ℕ). continue (name o (withSystem st ((domainOf ds d) .asn)) l) on) e ∙ ap (λ (r : Reading State). continue r on) (enters o) ∙ next later
+
+    named
+        : (again : Bool) (k : ℕ)
+        → (domainOf ds d) .kind ≡ k
+        → (again ≡ true → (st .asn ≡ (domainOf ds d) .asn) × (k ≡ 0 → ⊥))
+        → (o : ℕ)
+        → readAll ds (placed o (systemItems again ((domainOf ds d) .asn) ++ areaItems k (domainOf ds d) ++ tail)) st ≡ result
+    unfolding readAll readOne
+    named true zero e h o = absurd (h refl .1 refl)
+    named true (suc k) e h o =
+        let D = domainOf ds d in
+        let later = o + length (areaItem (suc k) D .bytes) in
+        let already : st ≡ withSystem st (D .asn) = λ i. record { asn = h refl .0 i; here = st .here; sequence = st .sequence; waiting = st .waiting } in
+        ap (λ (s : State). continue (name o s (ofArea ds (s .asn) (areaOf D))) (λ (x : State). readAll ds (placed later tail) x)) already
+        ∙ by-name (ofArea ds (D .asn) (areaOf D)) (area-names d inside) o later
+    named false zero e h o =
+        let D = domainOf ds d in
+        let later = o + length (systemItem (D .asn) .bytes) in
+        ap (λ (b : Bool). continue (readSystem ds o st (D .asn) b) (λ (x : State). readAll ds (placed later tail) x)) (calm e later)
+        ∙ by-name (ofSystem ds (D .asn)) (system-names d inside e) o later
+    named false (suc k) e h o =
+        let D = domainOf ds d in
+        let between = o + length (systemItem (D .asn) .bytes) in
+        by-name (ofArea ds (D .asn) (areaOf D)) (area-names d inside) between (between + length (areaItem (suc k) D .bytes))
+
+    domain-read
+        : (again : Bool)
+        → (again ≡ true → (st .asn ≡ (domainOf ds d) .asn) × ((domainOf ds d) .kind ≡ 0 → ⊥))
+        → (o : ℕ)
+        → readAll ds (placed o (domainItems again (domainOf ds d) ++ tail)) st ≡ result
+    domain-read again h o = named again ((domainOf ds d) .kind) refl h o
+
+  -- an entry constraint that is written waits; where none is, none does
+  pin-read
+      : (pin : Option ℕ) (asn here : ℕ) (sequence : List Stop) (tail : List Item) (result : Reading (List Stop))
+      → ((o : ℕ) (w : Option Waiting) → pinOf w ≡ pin → readAll ds (placed o tail) (record { asn = asn; here = here; sequence = sequence; waiting = w }) ≡ result)
+      → (o : ℕ)
+      → readAll ds (placed o (pinItems pin ++ tail)) (record { asn = asn; here = here; sequence = sequence; waiting = none }) ≡ result
+  unfolding readAll readOne
+  pin-read none asn here sequence tail result next o = next o none refl
+  pin-read (some node) asn here sequence tail result next o =
+      next (o + length (pinItem node .bytes)) (some (record { offset = o; node = node })) refl
+
+  -- behind a domain of kind 0 comes a constraint, another AS or nothing
+  quiet
+      : (d : ℕ) (rest : List Stop)
+      → d < length ds
+      → Writable ds rest
+      → allDifferent (d ∷ domainsOf rest) ≡ true
+      → (domainOf ds d) .kind ≡ 0
+      → (o : ℕ)
+      → areaNext (placed o (itemsFrom ds (some ((domainOf ds d) .asn)) rest)) ≡ false
+  quiet d [] h w t k o = refl
+  quiet d (q ∷ more) h w t k o =
+      let Q = domainOf ds (q .domain) in
+      let other : eqb (Q .asn) ((domainOf ds d) .asn) ≡ false =
+      ne-eqb (Q .asn) ((domainOf ds d) .asn)
+      (λ e. different-next d (q .domain) (domainsOf more) t (sound .alone d (q .domain) h (w .0) k (sym e))) in
+      let later = itemsFrom ds (some (Q .asn)) more in
+      go (q .pin) (eqb (Q .asn) ((domainOf ds d) .asn)) other Q later
+    where
+      go : (pin : Option ℕ) (again : Bool) → again ≡ false → (D : Domain) (later : List Item) → areaNext (placed o (pinItems pin ++ (domainItems again D ++ later))) ≡ false
+      go none true e D later = absurd (true≢false e)
+      go none false e D later = refl
+      go (some node) again e D later = refl
+
+  -- The reading stands in the last domain of what is read so far, with its AS as current and nothing waiting: the rest of the sequence is read behind it.
+  rest-read
+      : (rest done : List Stop) (last : ℕ)
+      → last < length ds
+      → among last (domainsOf done) ≡ true
+      → Writable ds rest
+      → allDifferent (domainsOf done ++ domainsOf rest) ≡ true
+      → length done + length rest ≤ 16
+      → (o : ℕ)
+      → readAll ds (placed o (itemsFrom ds (some ((domainOf ds last) .asn)) rest)) (record { asn = (domainOf ds last) .asn; here = last; sequence = done; waiting = none })
+      ≡ good (done ++ rest)
+  unfolding readAll
+  rest-read [] done last h m w t r o = ap good (sym (append-nil done))
+  rest-read (p ∷ rest) done last h m w t r o =
+      let d = p .domain in
+      let D = domainOf ds d in
+      let n = (domainOf ds last) .asn in
+      let fresh : among d (domainsOf done) ≡ false = different-fresh (domainsOf done) d (domainsOf rest) t in
+      let away : d ≡ last → ⊥ = λ e. clash m (ap (λ (i : ℕ). among i (domainsOf done)) (sym e) ∙ fresh) in
+      let behind : allDifferent (d ∷ domainsOf rest) ≡ true = different-behind (domainsOf done) (d ∷ domainsOf rest) t in
+      let longer : domainsOf (done ++ (p ∷ [])) ≡ domainsOf done ++ (d ∷ []) = map-append (λ (x : Stop). x .domain) done (p ∷ []) in
+      let others : allDifferent (domainsOf (done ++ (p ∷ [])) ++ domainsOf rest) ≡ true = rw (longer, append-assoc) t in
+      let later = itemsFrom ds (some (D .asn)) rest in
+      let result : Reading (List Stop) = good (done ++ (p ∷ rest)) in
+      pin-read (p .pin) n last done (domainItems (eqb (D .asn) n) D ++ later) result
+      (λ o′ wait e.
+      let st : State = record { asn = n; here = last; sequence = done; waiting = wait } in
+      let itself : _≡_ {A = Stop} (record { domain = d; pin = pinOf wait }) p = λ i. record { domain = d; pin = e i } in
+      domain-read st (added (withSystem st (D .asn)) d) d (w .0) later result (λ o″. enter-new o″ (withSystem st (D .asn)) d away fresh (omega arith))
+      (λ o″.
+      ap (λ (x : Stop). readAll ds (placed o″ later) (record { asn = D .asn; here = d; sequence = done ++ (x ∷ []); waiting = none })) itself
+      ∙ rest-read rest (done ++ (p ∷ [])) d (w .0) (rw longer (among-last (domainsOf done) d)) (w .2) others (omega (arith, length-append done (p ∷ []))) o″
+      ∙ ap good (append-assoc done (p ∷ []) rest))
+      (quiet d rest (w .0) (w .2) behind)
+      (eqb (D .asn) n)
+      (λ again. (sym (eqb-true (D .asn) n again), λ k. away (sound .alone d last (w .0) h k (eqb-true (D .asn) n again))))
+      o′)
+      o
+
+  -- The whole list, read in its first domain, which has no entry constraint: naming the domain one is in adds nothing.
+  pub stops-read
+      : (p : Stop) (rest : List Stop)
+      → p .pin ≡ none
+      → Writable ds (p ∷ rest)
+      → allDifferent (domainsOf (p ∷ rest)) ≡ true
+      → length (p ∷ rest) ≤ 16
+      → meaning ds (p .domain) (written ds (p ∷ rest)) ≡ good (p ∷ rest)
+  unfolding meaning
+  stops-read p rest e w t r =
+      let d = p .domain in
+      let D = domainOf ds d in
+      let later = itemsFrom ds (some (D .asn)) rest in
+      let itself : _≡_ {A = Stop} (record { domain = d; pin = none }) p = λ i. record { domain = d; pin = sym e i } in
+      let start : State = startIn ds d in
+      ap (λ (subs : List Subobject). readAll ds subs start) (written-subobjects ds sound (p ∷ rest) w)
+      ∙ ap (λ (pin : Option ℕ). readAll ds (placed 0 (pinItems pin ++ (domainItems false D ++ later))) start) e
+      ∙ domain-read start start d (w .0) later (good (p ∷ rest)) (λ o. enter-here o start d refl)
+      (λ o.
+      ap (λ (x : Stop). readAll ds (placed o later) (record { asn = D .asn; here = d; sequence = x ∷ []; waiting = none })) itself
+      ∙ rest-read rest (p ∷ []) d (w .0) (among-last [] d) (w .2) t (omega arith) o)
+      (quiet d rest (w .0) (w .2) t)
+      false
+      (λ again. absurd (false≢true again))
+      0

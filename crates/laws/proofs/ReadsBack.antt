@@ -1,0 +1,168 @@
+-- A list that is written for a sequence with entry constraints, read with the first domain as ingress, gives that sequence and those entry constraints; it
+-- has right form, its elements are bytes, and there are at most 576 of them. For every accepted profile and every sequence that the writer accepts.
+use Prim.Native.Nat.{ℕ, zero, suc, _^_, _≤_, _<_}
+use native.Mathlib.Omega.{arith}
+use mathlib.Core.Path.{_≡_, refl, ap, _∙_}
+use mathlib.Core.Bool.{true, false, not}
+use mathlib.Core.List.{List, [], _∷_}
+use mathlib.Core.Option.{none}
+use lib.ListN.{length, getD}
+use lib.Dec.{eqb, leb, ltb}
+use borrow.Author.Tests.{eqb-true, eqb-false, ltb-false, leb-false, lt-leb, le-ltb, not-false}
+use Rattle.model.specs.declared.Domain.{Domain}
+use Rattle.model.specs.declared.Verdict.the-variants.{Pass}
+use Rattle.model.specs.declared.ListKind.the-variants.{Include}
+use Rattle.model.specs.Lists.{any, allDifferent}
+use Rattle.model.specs.Profile.{version1, domainCount, profileVerdict, domains}
+use Rattle.model.specs.Subobject.{formVerdict}
+use Rattle.model.specs.Sequence.{Stop, good, domainsOf, meaning}
+use Rattle.model.specs.WrittenList.{written, pinIf, stops, firstPinned, unwritable}
+use Rattle.model.specs.Calls.{readingOf}
+use Rattle.laws.proofs.Tests.{or-neither}
+use Rattle.laws.proofs.SoundDomains.{SoundDomains, sound-domains}
+use Rattle.laws.proofs.Records.{length-domains}
+use Rattle.laws.proofs.WrittenItems.{PinFits, Writable, written-form, written-bytes, written-length}
+use Rattle.laws.proofs.ReadItems.{stops-read}
+
+-- ---- what the writer accepts
+
+-- the tests of number 35 that matter here, each answered
+record Accepts (ds : List Domain) (indexes marks nodes : List ℕ) : Type 0 where
+  some-domain : length indexes ≡ 0 → ⊥
+  most : length indexes ≤ 16
+  as-many-marks : length marks ≡ length indexes
+  as-many-nodes : length nodes ≡ length indexes
+  in-profile : any (λ (d : ℕ). leb (length ds) d) indexes ≡ false
+  different : allDifferent indexes ≡ true
+  unpinned : firstPinned marks ≡ false
+
+accepts : (ds : List Domain) (indexes marks nodes : List ℕ) → unwritable ds indexes marks nodes ≡ false → Accepts ds indexes marks nodes
+unfolding unwritable
+accepts ds indexes marks nodes e =
+    let h = or-neither _ (firstPinned marks) e in
+    let g = or-neither _ (any (λ (m : ℕ). ltb 1 m) marks) (h .0) in
+    let f = or-neither _ (not (allDifferent indexes)) (g .0) in
+    let d = or-neither _ (any (λ (d : ℕ). leb (length ds) d) indexes) (f .0) in
+    let c = or-neither _ (not (eqb (length nodes) (length indexes))) (d .0) in
+    let b = or-neither _ (not (eqb (length marks) (length indexes))) (c .0) in
+    let a = or-neither (eqb (length indexes) 0) (ltb 16 (length indexes)) (b .0) in
+    record {
+      some-domain = eqb-false (length indexes) 0 (a .0);
+      most = ltb-false 16 (length indexes) (a .1);
+      as-many-marks = eqb-true (length marks) (length indexes) (not-false _ (b .1));
+      as-many-nodes = eqb-true (length nodes) (length indexes) (not-false _ (c .1));
+      in-profile = d .1;
+      different = not-false (allDifferent indexes) (f .1);
+      unpinned = h .1;
+    }
+
+-- ---- the sequence that lent lists stand for
+
+pin-fits : (m node : ℕ) → node < 2 ^ 32 → PinFits (pinIf m node)
+pin-fits zero node h = tt
+pin-fits (suc m) node h = h
+
+stops-writable
+    : (ds : List Domain) (is ms ns : List ℕ)
+    → any (λ (d : ℕ). leb (length ds) d) is ≡ false
+    → ((i : ℕ) → getD ns i 0 < 2 ^ 32)
+    → Writable ds (stops is ms ns)
+unfolding stops any
+stops-writable ds [] ms ns a h = tt
+stops-writable ds (i ∷ is) [] ns a h = tt
+stops-writable ds (i ∷ is) (m ∷ ms) [] a h = tt
+stops-writable ds (i ∷ is) (m ∷ ms) (n ∷ ns) a h =
+    let b = or-neither (leb (length ds) i) (any (λ (d : ℕ). leb (length ds) d) is) a in
+    (leb-false (length ds) i (b .0), pin-fits m n (h 0), stops-writable ds is ms ns (b .1) (λ k. h (suc k)))
+
+stops-length : (is ms ns : List ℕ) → length (stops is ms ns) ≤ length is
+unfolding stops
+stops-length [] ms ns = omega arith
+stops-length (i ∷ is) [] ns = omega arith
+stops-length (i ∷ is) (m ∷ ms) [] = omega arith
+stops-length (i ∷ is) (m ∷ ms) (n ∷ ns) = omega (arith, stops-length is ms ns)
+
+stops-domains : (is ms ns : List ℕ) → length ms ≡ length is → length ns ≡ length is → domainsOf (stops is ms ns) ≡ is
+unfolding stops
+stops-domains [] ms ns p q = refl
+stops-domains (i ∷ is) [] ns p q = absurd (omega arith)
+stops-domains (i ∷ is) (m ∷ ms) [] p q = absurd (omega arith)
+stops-domains (i ∷ is) (m ∷ ms) (n ∷ ns) p q = ap (λ (t : List ℕ). i ∷ t) (stops-domains is ms ns (omega arith) (omega arith))
+
+first-unpinned : (m node : ℕ) → m ≡ 0 → pinIf m node ≡ none
+first-unpinned zero node e = refl
+first-unpinned (suc m) node e = absurd (omega arith)
+
+first-inside : (n : ℕ) (is : List ℕ) → (length is ≡ 0 → ⊥) → any (λ (d : ℕ). leb n d) is ≡ false → getD is 0 0 < n
+unfolding any
+first-inside n [] e a = absurd (e refl)
+first-inside n (i ∷ is) e a = leb-false n i ((or-neither (leb n i) (any (λ (d : ℕ). leb n d) is) a) .0)
+
+-- ---- the meaning of what is written
+
+means
+    : (ds : List Domain) → SoundDomains ds → (is ms ns : List ℕ)
+    → Accepts ds is ms ns
+    → ((i : ℕ) → getD ns i 0 < 2 ^ 32)
+    → meaning ds (getD is 0 0) (written ds (stops is ms ns)) ≡ good (stops is ms ns)
+unfolding stops
+means ds sound [] ms ns a h = absurd (a .some-domain refl)
+means ds sound (i ∷ is) [] ns a h = absurd (omega (arith, a .as-many-marks))
+means ds sound (i ∷ is) (m ∷ ms) [] a h = absurd (omega (arith, a .as-many-nodes))
+means ds sound (i ∷ is) (m ∷ ms) (n ∷ ns) a h =
+    let p : Stop = record { domain = i; pin = pinIf m n } in
+    let rest = stops is ms ns in
+    let same = stops-domains is ms ns (omega (arith, a .as-many-marks)) (omega (arith, a .as-many-nodes)) in
+    stops-read ds sound p rest (first-unpinned m n (eqb-true m 0 (not-false (eqb m 0) (a .unpinned))))
+    (stops-writable ds (i ∷ is) (m ∷ ms) (n ∷ ns) (a .in-profile) h)
+    (ap (λ (t : List ℕ). allDifferent (i ∷ t)) same ∙ a .different)
+    (omega (arith, a .most, stops-length is ms ns))
+
+-- ---- the law
+
+-- a profile that is accepted, and lists that the writer accepts: domain indexes, marks of entry constraints, and nodes
+module _ (profile indexes marks nodes : List ℕ) (bytes : (i : ℕ) → getD profile i 0 < 256) (addresses : (i : ℕ) → getD nodes i 0 < 2 ^ 32)
+    (accepted : profileVerdict version1 profile ≡ Pass) (writes : unwritable (domains profile) indexes marks nodes ≡ false) where
+  sound : SoundDomains (domains profile)
+  sound = sound-domains version1 profile bytes accepted
+
+  asked : Accepts (domains profile) indexes marks nodes
+  asked = accepts (domains profile) indexes marks nodes writes
+
+  writable : Writable (domains profile) (stops indexes marks nodes)
+  writable = stops-writable (domains profile) indexes marks nodes (asked .in-profile) addresses
+
+  -- the written list has at most 576 bytes,
+  pub written-size : length (written (domains profile) (stops indexes marks nodes)) ≤ 576
+  written-size = omega (arith, written-length (domains profile) sound (stops indexes marks nodes) writable, stops-length indexes marks nodes, asked .most)
+
+  -- so it fits a request,
+  pub written-short : length (written (domains profile) (stops indexes marks nodes)) ≤ 1024
+  written-short = omega (arith, written-size)
+
+  -- its elements are bytes,
+  pub written-are-bytes : (i : ℕ) → getD (written (domains profile) (stops indexes marks nodes)) i 0 < 256
+  written-are-bytes = written-bytes (domains profile) sound (stops indexes marks nodes) writable
+
+  -- its form is that of an include list,
+  pub written-passes : formVerdict Include (written (domains profile) (stops indexes marks nodes)) ≡ Pass
+  written-passes = written-form (domains profile) sound (stops indexes marks nodes) writable
+
+  -- and it is read back
+  read : readingOf profile (getD indexes 0 0) (written (domains profile) (stops indexes marks nodes)) ≡ good (stops indexes marks nodes)
+  unfolding readingOf
+  read =
+      let list = written (domains profile) (stops indexes marks nodes) in
+      let inside = first-inside (length (domains profile)) indexes (asked .some-domain) (asked .in-profile) in
+      rw (accepted, lt-leb (domainCount profile) (getD indexes 0 0) (omega (arith, length-domains profile)), le-ltb 1024 (length list) written-short, written-passes)
+      (means (domains profile) sound indexes marks nodes asked addresses)
+
+-- Document 01, "Written list": it is read back with its first domain as ingress.
+pub reads-back
+    : (profile indexes marks nodes : List ℕ)
+    → ((i : ℕ) → getD profile i 0 < 256)
+    → ((i : ℕ) → getD nodes i 0 < 2 ^ 32)
+    → profileVerdict version1 profile ≡ Pass
+    → unwritable (domains profile) indexes marks nodes ≡ false
+    → readingOf profile (getD indexes 0 0) (written (domains profile) (stops indexes marks nodes)) ≡ good (stops indexes marks nodes)
+reads-back = read
