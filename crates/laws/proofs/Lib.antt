@@ -40,3 +40,4 @@ pub mod WrittenItems
 pub mod NumberLists
 pub mod ReadItems
 pub mod ReadsBack
+pub mod Claims

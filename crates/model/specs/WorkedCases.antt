@@ -16,7 +16,7 @@ use Rattle.model.specs.Verdict.{inTurn}
 use Rattle.model.specs.Reserved.{inRanges, misplaced}
 use Rattle.model.specs.Profile as Profile
 use Rattle.model.specs.Subobject as Subobject
-use Rattle.model.specs.Sequence.{Stop, ofSystem, ofArea, enter, name, readOne, readAll, meaning}
+use Rattle.model.specs.Sequence.{Stop, Reading, refused, good, ofSystem, ofArea, enter, name, readOne, readAll, meaning}
 use Rattle.model.specs.WrittenList.{writtenFrom, written, stops, unwritable}
 use Rattle.model.specs.Exclusion.{excludedDomain, excludedNode}
 use Rattle.model.specs.Floats.{units, inRange, atLeast, atMost, floatOf}
@@ -24,8 +24,8 @@ use Rattle.model.specs.Request.{Request, requestVerdict, sequenceOf, sea
 use Rattle.model.specs.Path as Path
 use Rattle.model.specs.Tree as Tree
 use Rattle.model.specs.Answers.{Numbers}
-use Rattle.model.specs.Calls.{Outcome, readingOf, readInclude, writeList, buildTree, first, greaterThan, next}
-use Rattle.model.specs.Series.{Call, Reply, firstCall, nextCall, run}
+use Rattle.model.specs.Calls.{Outcome, pathLength, readingOf, readInclude, writeList, buildTree, first, greaterThan, next}
+use Rattle.model.specs.Series.{Call, Reply, firstCall, nextCall, book, run}
 
 -- ---- the two profiles, a record to a line
 
@@ -124,6 +124,7 @@ pub data Case : Type 0 where
   starting : Request → ℕ → Case
   following : Request → List ℕ → ℕ → Case
   series : Request → List Call → Case
+  recorded : Request → List Call → Case
 
 pub data Result : Type 0 where
   stopsRead : Outcome Stop → Result
@@ -132,6 +133,11 @@ pub data Result : Type 0 where
   path : Outcome ℕ → Result
   replies : List Reply → Result
 
+-- what the reference series has for an accepted request
+bookOf : Request → Reading (List Stop) → List Call → List Reply
+bookOf r (refused x) calls = []
+bookOf r (good sequence) calls = book (Path.shortestPaths (searchOf r sequence)) (pathLength sequence) 0 calls
+
 pub outcome : Case → Result
 outcome (reading profile ingress list room) = stopsRead (readInclude profile ingress list room)
 outcome (writing profile indexes marks nodes room) = bytesWritten (writeList profile indexes marks nodes room)
@@ -139,6 +145,7 @@ outcome (building r room) = entriesBuilt (buildTree r room)
 outcome (starting r room) = path (first r room)
 outcome (following r given room) = path (next r given room)
 outcome (series r calls) = replies (run r [] calls)
+outcome (recorded r calls) = replies (bookOf r (sequenceOf r) calls)
 
 pub record Row : Type 0 where
   pub case : Case
@@ -206,6 +213,7 @@ table =
     ∷ row (building (onW toEnd5 [] plain) 5) (entriesBuilt treeW)
     -- the three paths, then the end
     ∷ row (series (onW toEnd [] plain) (calls 3)) (replies (gives SPUZ ∷ gives SQTZ ∷ gives SQUZ ∷ ends ∷ []))
+    ∷ row (recorded (onW toEnd [] plain) (calls 3)) (replies (gives SPUZ ∷ gives SQTZ ∷ gives SQUZ ∷ ends ∷ []))
     -- after SPTZ, which is no shortest path
     ∷ row (following (onW toEnd [] plain) SPTZ 4) (path (costs14 SPUZ))
     -- bound 14.0 and 13.0
@@ -231,5 +239,5 @@ table =
 
 -- every row holds
 pub worked-cases : map (λ (r : Row). outcome (r .case)) table ≡ map (λ (r : Row). r .expected) table
-unfolding profileW profileOspf toEnd toEnd5 throughU back withoutQ plain bounded above100 onW short whole alone outcome numbers through at costs14 treeW calls gives ends SPUZ SPTZ SQTZ SQUZ three no-path row table countFrom keep all any each among allDifferent sum least same below insert different over number bytesOf allZero inTurn inRanges misplaced Profile.headerWrong Profile.countsWrong Profile.lengthWrong Profile.headerVerdict Profile.domainAt Profile.domains Profile.areaLengthFits Profile.domainMalformed Profile.domainMisordered Profile.domainVerdict Profile.hopAt Profile.hops Profile.hopMalformed Profile.hopMisordered Profile.hopVerdict Profile.entryNodes Profile.crowded Profile.crowdedVerdict Profile.profileVerdict Subobject.known Subobject.lengthFits Subobject.subobjectVerdict Subobject.namedAt Subobject.formFrom Subobject.formVerdict Subobject.subobjectsFrom Subobject.subobjects ofSystem ofArea enter name readOne readAll meaning writtenFrom written stops unwritable excludedDomain excludedNode units inRange atLeast atMost floatOf requestVerdict sequenceOf searchOf Path.legs Path.keepsBound Path.allowed Path.hopsFrom Path.suffixes Path.paths Path.admissible Path.cheapest Path.shortestPaths Tree.entriesAt Tree.entry Tree.tree Tree.tally readingOf readInclude writeList buildTree first greaterThan next run ofBits toBits ofFields odd size span climb ofInt round isNan Ieee.units trailingZeros
+unfolding profileW profileOspf toEnd toEnd5 throughU back withoutQ plain bounded above100 onW short whole alone bookOf outcome numbers through at costs14 treeW calls gives ends SPUZ SPTZ SQTZ SQUZ three no-path row table countFrom keep all any each among allDifferent sum least same below insert different over number bytesOf allZero inTurn inRanges misplaced Profile.headerWrong Profile.countsWrong Profile.lengthWrong Profile.headerVerdict Profile.domainAt Profile.domains Profile.areaLengthFits Profile.domainMalformed Profile.domainMisordered Profile.domainVerdict Profile.hopAt Profile.hops Profile.hopMalformed Profile.hopMisordered Profile.hopVerdict Profile.entryNodes Profile.crowded Profile.crowdedVerdict Profile.profileVerdict Subobject.known Subobject.lengthFits Subobject.subobjectVerdict Subobject.namedAt Subobject.formFrom Subobject.formVerdict Subobject.subobjectsFrom Subobject.subobjects ofSystem ofArea enter name readOne readAll meaning writtenFrom written stops unwritable excludedDomain excludedNode units inRange atLeast atMost floatOf requestVerdict sequenceOf searchOf Path.legs Path.keepsBound Path.allowed Path.hopsFrom Path.suffixes Path.paths Path.admissible Path.cheapest Path.shortestPaths Tree.entriesAt Tree.entry Tree.tree Tree.tally readingOf readInclude writeList buildTree first greaterThan next book run ofBits toBits ofFields odd size span climb ofInt round isNan Ieee.units trailingZeros
 worked-cases = refl
