@@ -41,3 +41,6 @@ pub mod NumberLists
 pub mod ReadItems
 pub mod ReadsBack
 pub mod Claims
+pub mod Walk
+pub mod Words
+pub mod Different

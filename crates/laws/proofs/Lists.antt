@@ -7,8 +7,8 @@ use mathlib.Core.List.{List, [], _∷_, _++_, map, List·Memᴰ, List·Memᴰ·h
 use Prim.Native.Nat.{ℕ, zero, suc, _+_, _≤_, _<_}
 use native.Mathlib.Omega.{arith}
 use native.Mathlib.Nat.{eq-or-lt-of-le}
-use lib.ListN.{length, take, drop, length-append, length-drop}
-use lib.Seq.{take-append-seam, drop-append-seam}
+use lib.ListN.{length, getD, take, drop, set, length-append, length-drop}
+use lib.Seq.{take-append-seam, drop-append-seam, length-take-le, drop-cons, take-suc, set-at, append-snoc}
 use Rattle.model.specs.Lists.{countFrom, keepIf, keep, all, any, each, over}
 use Rattle.laws.proofs.Tests.{and-both, or-either, or-left, or-right, or-neither, both-and, decide, clash}
 
@@ -211,3 +211,18 @@ module _ {A : Type 0} where
   pub over-nothing : (old : List A) → over [] old ≡ old
   unfolding over
   over-nothing old = refl
+
+  -- a list copied element by element over the start of a buffer: one element more
+  pub copied-next
+      : (src old : List A) (i : ℕ) (d : A) → i < length src → i < length old
+      → set (over (take i src) old) i (getD src i d) ≡ over (take (suc i) src) old
+  unfolding over
+  copied-next src old i d h k =
+      let long : length (take i src) ≡ i = length-take-le i src (omega arith) in
+      let next : length (take (suc i) src) ≡ suc i = length-take-le (suc i) src h in
+      ap (λ (n : ℕ). set (take i src ++ drop n old) i (getD src i d)) long
+      ∙ ap (λ (l : List A). set (take i src ++ l) i (getD src i d)) (drop-cons old i d k)
+      ∙ set-at (take i src) (getD old i d) (drop (suc i) old) (getD src i d) i long
+      ∙ sym (append-snoc (take i src) (getD src i d) (drop (suc i) old))
+      ∙ ap (λ (l : List A). l ++ drop (suc i) old) (sym (take-suc src i d h))
+      ∙ ap (λ (n : ℕ). take (suc i) src ++ drop n old) (sym next)

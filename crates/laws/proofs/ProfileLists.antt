@@ -6,7 +6,9 @@ use mathlib.Core.Path.{_≡_, refl, sym, ap, subst, _∙_}
 use mathlib.Core.Logic.{_⊎_, inl, inr, ⊎-elim}
 use mathlib.Core.Bool.{Bool, true, false}
 use mathlib.Core.List.{List, [], _∷_, _++_, map, List·Memᴰ, Memᴰ·cast, Memᴰ·append-left, Memᴰ·append-right, List·Memᴰ·append-cases, List·Memᴰ·eq-of-singleton, List·Memᴰ·head, List·Memᴰ·tail, List·Memᴰ·cases-cons, List·Memᴰ·not-nil}
-use lib.ListN.{length, getD, length-map}
+use lib.ListN.{length, getD, take, length-map}
+use lib.Seq.{ext-getD, length-take-le, getD-take}
+use native.Mathlib.Nat.{zero-add}
 use lib.Dec.{eqb, ltb}
 use borrow.Author.Tests.{ltb-true, ltb-false, eqb-true, eqb-false, eq-eqb}
 use Rattle.model.specs.Lists.{countFrom, any, among, insertAt, insert, different}
@@ -189,3 +191,12 @@ different-snoc xs x =
     (λ (e : z ≡ x). Memᴰ·append-right xs (List·Memᴰ·head e))
     (λ n. Memᴰ·append-left (x ∷ []) (different-mem xs n))
     (insert-mem x (different xs) m)))
+
+-- the elements of a list by their indexes, as far as n
+pub taken-by-index : (xs : List ℕ) (n : ℕ) → n ≤ length xs → map (λ (i : ℕ). getD xs i 0) (countFrom 0 n) ≡ take n xs
+taken-by-index xs n h =
+    let at : ℕ → ℕ = λ i. getD xs i 0 in
+    ext-getD 0 (map at (countFrom 0 n)) (take n xs) (length-map-countFrom at 0 n ∙ sym (length-take-le n xs h))
+    (λ i l.
+    let below : i < n = subst (λ (m : ℕ). i < m) (length-map-countFrom at 0 n) l in
+    getD-map-countFrom at 0 n i 0 below ∙ ap at (zero-add i) ∙ sym (getD-take n xs i 0 below))

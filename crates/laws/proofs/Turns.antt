@@ -2,6 +2,7 @@
 -- By cases on a verdict and recursion on the number of records.
 use Prim.Native.Nat.{ℕ, zero, suc, _+_, _-_, _≤_, _<_}
 use native.Mathlib.Nat.{add-zero, zero-add, add-suc, suc-add, add-sub-of-le, eq-or-lt-of-le}
+use native.Mathlib.Numerals.{add-one}
 use native.Mathlib.Omega.{arith}
 use mathlib.Core.Path.{_≡_, refl, sym, ap, _∙_}
 use mathlib.Core.Logic.{_↔_, ⊎-elim}
@@ -100,3 +101,10 @@ pub inTurn-cong : (f g : ℕ → Verdict) (i n : ℕ) → ((j : ℕ) → i ≤ j
 unfolding inTurn
 inTurn-cong f g i zero h = refl
 inTurn-cong f g i (suc n) h = rw (h i (omega arith) (omega arith), inTurn-cong f g (suc i) n (λ j p q. h j (omega arith) (omega arith)))
+
+-- the step of a loop: the record whose turn it is passes, or is refused
+pub turn-passed : (check : ℕ → Verdict) (i n : ℕ) → i < n → check i ≡ Pass → inTurn check i (n - i) ≡ inTurn check (i + 1) (n - (i + 1))
+turn-passed check i n h e = inTurn-next check i n h ∙ ap (λ (v : Verdict). v andThen inTurn check (suc i) (n - suc i)) e ∙ (rw add-one refl)
+
+pub turn-refused : (check : ℕ → Verdict) (i n : ℕ) (r : Refusal) → i < n → check i ≡ Refuse r → inTurn check i (n - i) ≡ Refuse r
+turn-refused check i n r h e = inTurn-next check i n h ∙ ap (λ (v : Verdict). v andThen inTurn check (suc i) (n - suc i)) e

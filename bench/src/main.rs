@@ -1,0 +1,27 @@
+//! The proved library's calls beside the reference's, on the largest inputs:
+//! one line for each call.
+
+mod race;
+
+use race::race;
+use reference::generate;
+
+fn main() {
+    check_profile();
+}
+
+fn check_profile() {
+    let profile = generate::largest_profile(0);
+    let by = |call: fn(&[u8], &mut [u32; 1]) -> u32| {
+        let profile = &profile;
+        move || {
+            let mut numbers = [0; 1];
+            (call(profile, &mut numbers), numbers)
+        }
+    };
+    race(
+        "check_profile",
+        by(tests::check_profile),
+        by(reference::check_profile),
+    );
+}

@@ -1,0 +1,16 @@
+-- What the C exports that lend buffers answer, store and leave in them, over `Calls` of `model`.
+use mathlib.Core.Path.{_≡_}
+use mathlib.Core.List.{List, map}
+use Prim.Native.Nat.{ℕ}
+use Rattle.model.specs.Lists.{over}
+use Rattle.model.specs.Sequence.{Stop}
+use Rattle.model.specs.Calls.{readInclude, pinMark, pinNode}
+use Rattle.domain_list.specs.ReadInclude.{least3}
+
+-- the number returned, the other numbers stored, and each buffer with its part of the sequence at its start
+pub record ReadExport (profile : List ℕ) (ingress : ℕ) (list domains marks nodes : List ℕ) (r : ℕ) (numbers domains′ marks′ nodes′ : List ℕ) : Type 0 where
+  pub answer : r ≡ (readInclude profile ingress list (least3 domains marks nodes)) .numbers .answer
+  pub others : numbers ≡ (readInclude profile ingress list (least3 domains marks nodes)) .numbers .others
+  pub in-domains : domains′ ≡ over (map (λ (p : Stop). p .domain) ((readInclude profile ingress list (least3 domains marks nodes)) .written)) domains
+  pub in-marks : marks′ ≡ over (map (λ (p : Stop). pinMark (p .pin)) ((readInclude profile ingress list (least3 domains marks nodes)) .written)) marks
+  pub in-nodes : nodes′ ≡ over (map (λ (p : Stop). pinNode (p .pin)) ((readInclude profile ingress list (least3 domains marks nodes)) .written)) nodes

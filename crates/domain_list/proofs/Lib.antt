@@ -1,0 +1,12 @@
+pub mod Table
+pub mod Zeros
+pub mod LengthLaws
+pub mod FormLaws
+pub mod Areas
+pub mod Exclusions
+pub mod Hits
+pub mod States
+pub mod Includes
+pub mod Copies
+pub mod ReadChecks
+pub mod ReadOutcomes

@@ -1,0 +1,39 @@
+-- `include::finished` meets its contract: each arm is a case of `finish`.
+use mathlib.Core.Path.{_≡_, refl, sym, ap}
+use Rattle.model.specs.Sequence as M
+use Rattle.domain_list.specs.declared.state.Waiting.{Waiting}
+use Rattle.domain_list.specs.Reading.{waitingOf, stateOf}
+use borrow.Author.Needs.{needs}
+use Rattle.domain_list.proofs.include.finished.Statement.{statement}
+use Rattle.domain_list.proofs.include.finished.Tie as tie
+use Rattle.domain_list.proofs.include.finished.Reads as reads
+use Rattle.domain_list.proofs.include.finished.Lts as lts
+
+-- src/include.rt:102:22
+enum-told : tie.Need-enum-told
+enum-told c = search needs
+
+-- src/include.rt:105:25
+enum-known-waiting : tie.Need-enum-known-waiting
+enum-known-waiting c = search needs
+
+-- src/include.rt:95:1
+returns : tie.Need-returns
+returns c =
+    let a = c .before .before .args in
+    record {
+      means = sym (ap (λ (w : Waiting). M.finish (stateOf (a .st)) (waitingOf w)) (c .enum-told .given .1));
+      sound = c .before .before .pre;
+    }
+
+-- src/include.rt:95:1
+returns-2 : tie.Need-returns-2
+returns-2 c =
+    let a = c .before .before .before .args in
+    record {
+      means = sym (ap (λ (w : Waiting). M.finish (stateOf (a .st)) (waitingOf w)) (c .before .waiting .given .1));
+      sound = c .before .before .before .pre;
+    }
+
+pub finished-spec : {M : Type 1} → statement M
+finished-spec = tie.close (tie.spec enum-told enum-known-waiting returns returns-2)

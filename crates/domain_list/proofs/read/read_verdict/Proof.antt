@@ -1,0 +1,76 @@
+-- `read::read_verdict` meets its contract: the tests are those of `readVerdict`, in its order.
+use mathlib.Core.Path.{_≡_, sym, subst, _∙_}
+use Prim.Native.Nat.{ℕ, _≤_, _<_}
+use lib.Dec.{leb}
+use borrow.Author.Tests.{lt-ltb, le-ltb, le-leb, lt-leb}
+use Rattle.model.specs.declared.Verdict.the-variants.{Pass}
+use Rattle.model.specs.Profile.{version1, profileVerdict, domainCount}
+use Rattle.domain_list.proofs.ReadChecks.{profile-refused, ingress-refused, size-refused, form-left, whole-header}
+use borrow.Author.Needs.{needs}
+use Rattle.domain_list.proofs.read.read_verdict.Statement.{statement}
+use Rattle.domain_list.proofs.read.read_verdict.Tie as tie
+use Rattle.domain_list.proofs.read.read_verdict.Reads as reads
+use Rattle.domain_list.proofs.read.read_verdict.Lts as lts
+use Rattle.domain_list.proofs.form.form.Reads as form-reads
+use Rattle.profile.proofs.header.domain_count.Reads as domain-count-reads
+use Rattle.profile.proofs.verdict_on.Reads as verdict-on-reads
+
+taken : (c : tie.After-enum-told) → profileVerdict version1 (c .before .before .before .before .before .args .profile .now) ≡ Pass
+taken c = sym (c .before .before .verdict-on .ensures) ∙ c .enum-told .given .1
+
+-- src/read.rt:56:9
+verdict-on-requires : tie.Need-verdict-on-requires
+verdict-on-requires c κs = search needs
+
+-- src/read.rt:57:28
+enum-known-v : tie.Need-enum-known-v
+enum-known-v c = search needs
+
+-- src/read.rt:58:9
+returns : tie.Need-returns
+returns c =
+    let a = c .before .before .before .before .before .before .args in
+    sym (profile-refused (a .profile .now) (a .ingress) (a .list .now) _ (sym (c .before .before .before .verdict-on .ensures) ∙ c .before .v .given .1))
+
+enum-told : tie.Need-enum-told
+enum-told c = search needs
+
+-- src/read.rt:60:8
+domain-count-requires : tie.Need-domain-count-requires
+domain-count-requires c κs = whole-header (c .before .before .before .before .before .args .profile .now) (taken c)
+
+-- src/read.rt:61:9
+returns-2 : tie.Need-returns-2
+returns-2 c =
+    let a = c .before .before .before .before .before .before .before .args in
+    sym (ingress-refused (a .profile .now) (a .ingress) (a .list .now) (taken (c .before .before)) (le-leb _ _ (subst (λ (n : ℕ). n ≤ a .ingress) (c .before .domain-count .ensures) (c .if1 .taken))))
+
+-- src/read.rt:67:9
+returns-3 : tie.Need-returns-3
+returns-3 c =
+    let a = c .before .before .before .before .before .before .before .before .args in
+    sym (size-refused (a .profile .now) (a .ingress) (a .list .now) (taken (c .before .before .before)) (lt-leb _ _ (subst (λ (n : ℕ). a .ingress < n) (c .before .before .domain-count .ensures) (c .before .if1 .left))) (lt-ltb _ _ (c .if2 .taken)))
+
+-- src/read.rt:72:5
+form-requires : tie.Need-form-requires
+form-requires c κs = search needs
+
+-- src/read.rt:53:1
+returns-4 : tie.Need-returns-4
+returns-4 c =
+    let a = c .before .before .before .before .before .before .before .before .before .args in
+    c .form .ensures ∙ sym (form-left (a .profile .now) (a .ingress) (a .list .now) (taken (c .before .before .before .before)) (lt-leb _ _ (subst (λ (n : ℕ). a .ingress < n) (c .before .before .before .domain-count .ensures) (c .before .before .if1 .left))) (le-ltb _ _ (c .before .if2 .left)))
+
+pub read-verdict-spec : {M : Type 1} → statement M
+read-verdict-spec =
+    tie.close
+    (tie.spec
+    verdict-on-requires
+    enum-known-v
+    returns
+    enum-told
+    domain-count-requires
+    returns-2
+    returns-3
+    form-requires
+    returns-4)

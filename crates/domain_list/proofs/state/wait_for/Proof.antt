@@ -1,0 +1,48 @@
+-- `state::wait_for` meets its contract: each arm is a case of `wait`.
+use mathlib.Core.Path.{_≡_, refl, sym, ap, subst, _∙_}
+use Rattle.model.specs.Sequence as M
+use Rattle.domain_list.specs.declared.state.Waiting.{Waiting}
+use Rattle.domain_list.specs.declared.state.Waiting.the-variants.{Node}
+use Rattle.domain_list.specs.Reading.{waitingOf, stateOf, SteppedIs}
+use Rattle.domain_list.proofs.States.{stepped-refused, stepped-on, changed}
+use borrow.Author.Needs.{needs}
+use Rattle.domain_list.proofs.state.wait_for.Statement.{statement}
+use Rattle.domain_list.proofs.state.wait_for.Tie as tie
+use Rattle.domain_list.proofs.state.wait_for.Reads as reads
+use Rattle.domain_list.proofs.state.wait_for.Lts as lts
+use Rattle.domain_list.proofs.subobject.refuse.Reads as refuse-reads
+
+-- src/state.rt:150:22
+enum-told : tie.Need-enum-told
+enum-told c = search needs
+
+-- src/state.rt:150:22
+refuse-requires : tie.Need-refuse-requires
+refuse-requires c κs = search needs
+
+-- src/state.rt:154:17
+enum-told-2 : tie.Need-enum-told-2
+enum-told-2 c = search needs
+
+-- src/state.rt:166:33
+cast-t11 : tie.Need-cast-t11
+cast-t11 c = search needs
+
+-- src/state.rt:143:1
+returns : tie.Need-returns
+returns c =
+    let a = c .before .before .before .args in
+    let pre = c .before .before .before .pre in
+    stepped-refused (a .st) _ 32 (a .at) _ (pre .0) (c .refuse .ensures)
+    (ap (λ (w : Waiting). M.wait (a .at) (stateOf (a .st)) (a .node) (waitingOf w)) (c .before .enum-told .given .1))
+
+-- src/state.rt:143:1
+returns-2 : tie.Need-returns-2
+returns-2 c =
+    let a = c .before .before .before .before .before .args in
+    stepped-on _ _ _ (changed (a .st) (a .st .asn) (Node (a .at) (a .node)) (c .before .before .before .before .before .pre .0))
+    (ap (λ (w : Waiting). M.wait (a .at) (stateOf (a .st)) (a .node) (waitingOf w)) (c .before .before .before .enum-told2 .given .1))
+
+pub wait-for-spec : {M : Type 1} → statement M
+wait-for-spec =
+    tie.close (tie.spec enum-told refuse-requires enum-told-2 cast-t11 returns returns-2)

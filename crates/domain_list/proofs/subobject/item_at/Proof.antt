@@ -1,0 +1,70 @@
+-- `subobject::item_at` meets its contract: the subobject lies inside the list, so its fields can be read.
+use Prim.Native.Nat.{ℕ, _+_}
+use mathlib.Core.Path.{refl, ap}
+use native.Mathlib.Omega.{arith}
+use Rattle.model.specs.Subobject.{typeAt, areaLengthAt, lengthAt}
+use Rattle.laws.proofs.Walk.{length-least}
+use borrow.Author.Needs.{needs}
+use Rattle.domain_list.proofs.subobject.item_at.Statement.{statement}
+use Rattle.domain_list.proofs.subobject.item_at.Tie as tie
+use Rattle.domain_list.proofs.subobject.item_at.Reads as reads
+use Rattle.domain_list.proofs.subobject.item_at.Lts as lts
+use Rattle.domain_list.proofs.subobject.named_at.Reads as named-at-reads
+use Rattle.domain_list.proofs.subobject.wide.Reads as wide-reads
+
+-- src/subobject.rt:240:9
+named-at-requires : tie.Need-named-at-requires
+named-at-requires c κs = search needs
+
+-- src/subobject.rt:243:21
+shared-slice-read-t5 : tie.Need-shared-slice-read-t5
+shared-slice-read-t5 c = search needs
+
+-- src/subobject.rt:245:30
+add-wide : tie.Need-add-wide
+add-wide c = search needs
+
+-- src/subobject.rt:245:25
+shared-slice-read-wide : tie.Need-shared-slice-read-wide
+shared-slice-read-wide c = search needs
+
+-- src/subobject.rt:245:20
+wide-requires : tie.Need-wide-requires
+wide-requires c κs = search needs
+
+-- src/subobject.rt:245:15
+add-t11 : tie.Need-add-t11
+add-t11 c = search needs
+
+-- src/subobject.rt:236:1
+returns : tie.Need-returns
+returns c =
+    let a = c .before .before .before .before .before .args in
+    let s = a .list .now in
+    let h = c .before .before .before .before .before .pre in
+    let n = c .wide .ensures .0 in
+    let l = length-least (typeAt s (a .at)) (areaLengthAt s (a .at)) (lengthAt s (a .at)) (h .fits) in
+    let i = h .inside in
+    λ k right.
+    record {
+      right = right;
+      offset = refl;
+      top = refl;
+      named = (c .before .before .before .named-at .ensures) .named;
+      next = ap (λ (x : ℕ). a .at + x) n;
+      further = omega arith;
+      inside = omega arith;
+      area = (c .before .before .before .named-at .ensures) .area;
+    }
+
+pub item-at-spec : {M : Type 1} → statement M
+item-at-spec =
+    tie.close
+    (tie.spec
+    named-at-requires
+    shared-slice-read-t5
+    add-wide
+    shared-slice-read-wide
+    wide-requires
+    add-t11
+    returns)

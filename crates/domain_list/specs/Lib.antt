@@ -1,0 +1,5 @@
+pub mod Lengths
+pub mod Items
+pub mod Found
+pub mod Reading
+pub mod ReadInclude

@@ -1,0 +1,35 @@
+-- What `read_include` answers and leaves in the lent buffers, over `Calls` of `model`.
+use mathlib.Core.Path.{_≡_}
+use mathlib.Core.List.{List, map}
+use Prim.Native.Nat.{ℕ, min}
+use lib.ListN.{length}
+use Rattle.model.specs.declared.ListKind.the-variants.{Include}
+use Rattle.model.specs.declared.ReadAnswer.{ReadAnswer}
+use Rattle.model.specs.declared.Verdict.{Verdict}
+use Rattle.model.specs.Lists.{over}
+use Rattle.model.specs.Verdict.{_andThen_}
+use Rattle.model.specs.Profile.{version1, profileVerdict}
+use Rattle.model.specs.Subobject.{formVerdict}
+use Rattle.model.specs.Sequence.{Stop}
+use Rattle.model.specs.Request.{ingressVerdict, sizeVerdict}
+use Rattle.model.specs.Answers.{numbersOfRead}
+use Rattle.model.specs.Calls.{readInclude, pinMark, pinNode}
+
+-- the checks of `readingOf` before the meaning of the list
+abbrev pub readVerdict : List ℕ → ℕ → List ℕ → Verdict
+readVerdict profile ingress list =
+    profileVerdict version1 profile
+    andThen ingressVerdict profile ingress
+    andThen sizeVerdict list 0
+    andThen formVerdict Include list
+
+-- each lent buffer has to have the capacity
+abbrev pub least3 : List ℕ → List ℕ → List ℕ → ℕ
+least3 a b c = min (length a) (min (length b) (length c))
+
+-- the numbers are those of `readInclude`, and each buffer has its part of the sequence at its start and its own rest after it
+pub record ReadIs (profile : List ℕ) (ingress : ℕ) (list domains marks nodes : List ℕ) (r : ReadAnswer) (domains′ marks′ nodes′ : List ℕ) : Type 0 where
+  pub numbers : numbersOfRead r ≡ (readInclude profile ingress list (least3 domains marks nodes)) .numbers
+  pub in-domains : domains′ ≡ over (map (λ (p : Stop). p .domain) ((readInclude profile ingress list (least3 domains marks nodes)) .written)) domains
+  pub in-marks : marks′ ≡ over (map (λ (p : Stop). pinMark (p .pin)) ((readInclude profile ingress list (least3 domains marks nodes)) .written)) marks
+  pub in-nodes : nodes′ ≡ over (map (λ (p : Stop). pinNode (p .pin)) ((readInclude profile ingress list (least3 domains marks nodes)) .written)) nodes

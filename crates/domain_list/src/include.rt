@@ -1,0 +1,138 @@
+// The meaning of an include list of right form on an accepted profile: its sequence of domains and their entry constraints, or its refusal (28 to 32).
+use crate::find::of_area;
+use crate::find::of_system;
+use crate::state::State;
+use crate::state::Stepped;
+use crate::state::Waiting;
+use crate::state::name_found;
+use crate::state::wait_for;
+use crate::state::with_asn;
+use crate::subobject::Item;
+use crate::subobject::Named;
+use crate::subobject::item_at;
+use model::Refusal;
+use model::Verdict;
+use wire::u32_at;
+ghost use mathlib.Core.Path.{_≡_};
+ghost use Prim.Native.Nat.{_≤_, _<_};
+ghost use lib.ListN.{length};
+ghost use Rattle.model.specs.declared.ListKind.the-variants.{Include};
+ghost use Rattle.model.specs.declared.Verdict.the-variants.{Pass};
+ghost use Rattle.model.specs.Profile.{domains, domainCount};
+ghost use Rattle.model.specs.Subobject.{formVerdict};
+ghost use Rattle.model.specs.Sequence.{readSystem, readNamed, areaNext, startIn, finish, meaning};
+ghost use Rattle.laws.proofs.Walk.{subobjectsLeft};
+ghost use Rattle.domain_list.specs.Items.{namedOf, AreaInside};
+ghost use Rattle.domain_list.specs.Found.{WholeDomains, ShortAreas};
+ghost use Rattle.domain_list.specs.Reading.{stateOf, waitingOf, Sound, StateIs, SteppedIs, MeaningIs};
+
+// An AS becomes current; unless an area follows at once it names its only domain.
+fn read_system(profile: &[u8], st: State, at: usize, asn: u32, follows: bool) -> Stepped
+    requires { ⌜ Sound st × (at ≤ 1024) × WholeDomains (now profile) ⌝ }
+    ensures { λ r. ⌜ SteppedIs r (readSystem (domains (now (profile .entry))) at (stateOf st) asn follows) ⌝ }
+{
+    let next = with_asn(st, asn);
+    if follows {
+        return Stepped {
+            verdict: Verdict::Pass,
+            state: next,
+        };
+    }
+    let found = of_system(profile, asn);
+    name_found(next, at, found)
+}
+
+// One subobject.
+fn read_item(profile: &[u8], list: &[u8], st: State, item: Item, follows: bool) -> Stepped
+    requires { ⌜ Sound st × (item .offset ≤ 1024) × AreaInside (now list) (item .named) × WholeDomains (now profile) × ShortAreas (now profile) ⌝ }
+    ensures { λ r. ⌜ SteppedIs r (readNamed (domains (now (profile .entry))) (item .offset) (stateOf st) follows (namedOf (now (list .entry)) (item .named))) ⌝ }
+{
+    let at = item.offset;
+    let named = item.named;
+    match named {
+        Named::Prefix { address, bits: _ } => wait_for(st, at, address),
+        Named::System { asn } => read_system(profile, st, at, asn, follows),
+        Named::Area { kind, start, count } => {
+            let found = of_area(profile, st.asn, list, kind, start, count);
+            name_found(st, at, found)
+        }
+    }
+}
+
+// An area subobject stands at this offset.
+fn area_at(list: &[u8], at: usize) -> bool
+    ensures { λ r. ⌜ r ≡ areaNext (subobjectsLeft (now (list .entry)) at) ⌝ }
+{
+    if list.len() <= at {
+        return false;
+    }
+    let t = list[at] % 128;
+    if t == 6 {
+        return true;
+    }
+    t == 7
+}
+
+// The reading starts in the ingress domain, with its AS as current.
+fn start(profile: &[u8], ingress: u16) -> State
+    requires { ⌜ WholeDomains (now profile) × (ingress < domainCount (now profile)) ⌝ }
+    ensures { λ r. ⌜ StateIs r (startIn (domains (now (profile .entry))) ingress) ⌝ }
+{
+    let i = ingress as usize;
+    let mut domains = [0u16; 16];
+    domains[0] = ingress;
+    State {
+        asn: u32_at(profile, 12 + 20 * i),
+        count: 1,
+        domains,
+        pinned: [0u8; 16],
+        pins: [0u32; 16],
+        waiting: Waiting::Nothing,
+    }
+}
+
+// An entry constraint left over at the end is 32 at its own offset.
+fn finished(st: State) -> Stepped
+    requires { ⌜ Sound st ⌝ }
+    ensures { λ r. ⌜ MeaningIs r (finish (stateOf st) (waitingOf (st .waiting))) ⌝ }
+{
+    let waiting = st.waiting;
+    match waiting {
+        Waiting::Nothing => Stepped {
+            verdict: Verdict::Pass,
+            state: st,
+        },
+        Waiting::Node { offset, node: _ } => Stepped {
+            verdict: Verdict::Refuse(Refusal {
+                number: 32,
+                place: offset,
+            }),
+            state: st,
+        },
+    }
+}
+
+// The whole list, subobject by subobject.
+pub fn read_list(profile: &[u8], ingress: u16, list: &[u8]) -> Stepped
+    requires { ⌜ WholeDomains (now profile) × ShortAreas (now profile) × (ingress < domainCount (now profile)) ⌝ }
+    requires { ⌜ (length (now list) ≤ 1024) × (formVerdict Include (now list) ≡ Pass) ⌝ }
+    ensures { λ r. ⌜ MeaningIs r (meaning (domains (now (profile .entry))) ingress (now (list .entry))) ⌝ }
+{
+    let mut st = start(profile, ingress);
+    let mut at: usize = 0;
+    while at < list.len() {
+        let item = item_at(list, at);
+        let next = item.next;
+        let stepped = read_item(profile, list, st, item, area_at(list, next));
+        let verdict = stepped.verdict;
+        if let Verdict::Refuse(r) = verdict {
+            return Stepped {
+                verdict: Verdict::Refuse(r),
+                state: st,
+            };
+        }
+        st = stepped.state;
+        at = next;
+    }
+    finished(st)
+}

@@ -1,0 +1,12 @@
+-- What the proofs of several functions share, a module to a subject.
+mod Ranges
+mod Words
+mod Fields
+mod Areas
+mod Neighbours
+mod Passed
+mod Records
+mod Pairs
+mod Crowding
+mod Scan
+mod CrowdStep

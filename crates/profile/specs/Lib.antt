@@ -1,0 +1,4 @@
+-- Names for the contracts of this crate.
+pub mod Layout
+pub mod Reserved
+pub mod Misplaced

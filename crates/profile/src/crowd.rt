@@ -1,0 +1,89 @@
+// Check 19: at most 16 entry nodes for each pair of different domains. The records of a pair stand together, so one pass notes the different entry nodes
+// of the current pair and no more.
+use crate::hop::hop_at;
+use crate::layout::Layout;
+use crate::verdict::refuse;
+use model::Verdict;
+ghost use mathlib.Core.Path.{_≡_};
+ghost use mathlib.Core.Bool.{cond, _&&_};
+ghost use Prim.Native.Nat.{_+_, _≤_, _<_};
+ghost use lib.ListN.{length, take, set};
+ghost use lib.Dec.{eqb};
+ghost use Rattle.model.specs.declared.Verdict.the-variants.{Pass};
+ghost use Rattle.model.specs.Lists.{among};
+ghost use Rattle.model.specs.Verdict.{inTurn};
+ghost use Rattle.model.specs.Profile.{domainCount, hopCount, hopVerdict, crowdedVerdict};
+ghost use Rattle.profile.specs.Layout.{layoutOf, HopsWithin};
+
+// Whether a node is among the first `count` of those noted.
+fn is_noted(noted: &[u32; 16], count: usize, node: u32) -> bool
+    requires { ⌜ (count ≤ 16) × (length (now noted) ≡ 16) ⌝ }
+    ensures { λ r. ⌜ r ≡ among node (take count (now (noted .entry))) ⌝ }
+{
+    let mut found = false;
+    let mut j = 0;
+    while j < count {
+        found = found | (noted[j] == node);
+        j += 1;
+    }
+    found
+}
+
+// Notes a node where it is not noted yet and there is room; how many there are then, noted or not.
+fn note(noted: &mut [u32; 16], count: usize, node: u32) -> usize
+    requires { ⌜ (count ≤ 16) × (length (now noted) ≡ 16) ⌝ }
+    ensures { λ r. ⌜ r ≡ cond (among node (take count (now (noted .entry)))) count (count + 1) ⌝ }
+    ensures { λ _. ⌜ now (noted .exit) ≡ cond (among node (take count (now (noted .entry)))) (now (noted .entry)) (set (now (noted .entry)) count node) ⌝ }
+{
+    if is_noted(&*noted, count, node) {
+        return count;
+    }
+    if count == 16 {
+        return 17;
+    }
+    noted[count] = node;
+    count + 1
+}
+
+// How many are noted of the pair (from, to), where (d, e) is the pair before.
+fn carried(count: usize, d: u16, e: u16, from: u16, to: u16) -> usize
+    ensures { λ r. ⌜ r ≡ cond (eqb from d && eqb to e) count 0 ⌝ }
+{
+    if from != d {
+        return 0;
+    }
+    if to != e {
+        return 0;
+    }
+    count
+}
+
+// Every hop record in turn, once each has passed its own checks.
+pub fn crowded_verdict(s: &[u8], layout: Layout, domains: usize, hops: usize) -> Verdict
+    requires { ⌜ (domains < 65536) × (hops < 65536) ⌝ }
+    requires { ⌜ domains ≡ domainCount (now s) ⌝ }
+    requires { ⌜ hops ≡ hopCount (now s) ⌝ }
+    requires { ⌜ HopsWithin (layoutOf layout) (now s) hops ⌝ }
+    requires { ⌜ inTurn (hopVerdict (layoutOf layout) (now s)) 0 (hopCount (now s)) ≡ Pass ⌝ }
+    ensures { λ r. ⌜ r ≡ inTurn (crowdedVerdict (layoutOf layout) (now (s .entry))) 0 (hopCount (now (s .entry))) ⌝ }
+{
+    let mut noted = [0u32; 16];
+    let mut count: usize = 0;
+    let mut d: u16 = 0;
+    let mut e: u16 = 0;
+    let mut i = 0;
+    while i < hops {
+        let h = hop_at(s, layout, domains, i);
+        count = carried(count, d, e, h.from.0, h.to.0);
+        d = h.from.0;
+        e = h.to.0;
+        if d != e {
+            count = note(&mut noted, count, h.head.0);
+            if 16 < count {
+                return refuse(19, (domains + i) as u32);
+            }
+        }
+        i += 1;
+    }
+    Verdict::Pass
+}

@@ -1,0 +1,76 @@
+// Profile files: the records they hold, and the check of a whole profile, numbers 10 to 19.
+use crate::crowd::crowded_verdict;
+use crate::domain::domains_verdict;
+use crate::header::class_of;
+use crate::header::domain_count;
+use crate::header::header_verdict;
+use crate::header::hop_count;
+use crate::hop::hops_verdict;
+use crate::layout::Layout;
+use crate::layout::first_version;
+use model::ProfileAnswer;
+use model::Verdict;
+ghost use mathlib.Core.Path.{_≡_};
+ghost use Rattle.model.specs.Answers.{numbersOfProfile};
+ghost use Rattle.model.specs.Calls.{checkProfile};
+ghost use Rattle.model.specs.Profile.{profileVerdict, version1};
+ghost use Rattle.profile.specs.Layout.{layoutOf, Sound};
+
+pub mod crowd;
+pub mod domain;
+pub mod header;
+pub mod hop;
+pub mod layout;
+pub mod order;
+pub mod reserved;
+pub mod verdict;
+
+// The verdict on a profile of any layout. A function that asks for an accepted profile asks that this verdict is `Pass`.
+pub fn profile_verdict(s: &[u8], layout: Layout) -> Verdict
+    requires { ⌜ Sound (layoutOf layout) ⌝ }
+    ensures { λ r. ⌜ r ≡ profileVerdict (layoutOf layout) (now (s .entry)) ⌝ }
+{
+    let header = header_verdict(s, layout);
+    match header {
+        Verdict::Pass => {}
+        Verdict::Refuse(r) => {
+            return Verdict::Refuse(r);
+        }
+    }
+    let class = class_of(s);
+    let domains = domain_count(s) as usize;
+    let hops = hop_count(s) as usize;
+    let first = domains_verdict(s, class, domains);
+    match first {
+        Verdict::Pass => {}
+        Verdict::Refuse(r) => {
+            return Verdict::Refuse(r);
+        }
+    }
+    let second = hops_verdict(s, layout, class, domains, hops);
+    match second {
+        Verdict::Pass => {}
+        Verdict::Refuse(r) => {
+            return Verdict::Refuse(r);
+        }
+    }
+    crowded_verdict(s, layout, domains, hops)
+}
+
+// The verdict on a profile of version 1, for every byte slice.
+pub fn verdict_on(profile: &[u8]) -> Verdict
+    ensures { λ r. ⌜ r ≡ profileVerdict version1 (now (profile .entry)) ⌝ }
+{
+    profile_verdict(profile, first_version())
+}
+
+// Whether the calculator takes a profile, and by which number and at which place it refuses it. For every byte slice.
+pub fn check_profile(profile: &[u8]) -> ProfileAnswer
+    ensures { λ r. ⌜ numbersOfProfile r ≡ checkProfile (now (profile .entry)) ⌝ }
+{
+    let v = verdict_on(profile);
+    match v {
+        Verdict::Pass => ProfileAnswer::Accepted,
+        Verdict::Refuse(r) => ProfileAnswer::Refused(r),
+    }
+}
