@@ -2,9 +2,10 @@
 use mathlib.Core.Path.{_≡_}
 use mathlib.Core.List.{List, map}
 use Prim.Native.Nat.{ℕ}
+use lib.ListN.{length}
 use Rattle.model.specs.Lists.{over}
 use Rattle.model.specs.Sequence.{Stop}
-use Rattle.model.specs.Calls.{readInclude, pinMark, pinNode}
+use Rattle.model.specs.Calls.{readInclude, writeList, pinMark, pinNode}
 use Rattle.domain_list.specs.ReadInclude.{least3}
 
 -- the number returned, the other numbers stored, and each buffer with its part of the sequence at its start
@@ -14,3 +15,9 @@ pub record ReadExport (profile : List ℕ) (ingress : ℕ) (list domains marks n
   pub in-domains : domains′ ≡ over (map (λ (p : Stop). p .domain) ((readInclude profile ingress list (least3 domains marks nodes)) .written)) domains
   pub in-marks : marks′ ≡ over (map (λ (p : Stop). pinMark (p .pin)) ((readInclude profile ingress list (least3 domains marks nodes)) .written)) marks
   pub in-nodes : nodes′ ≡ over (map (λ (p : Stop). pinNode (p .pin)) ((readInclude profile ingress list (least3 domains marks nodes)) .written)) nodes
+
+-- the number returned, the other numbers stored, and the written list at the start of the buffer
+pub record WriteExport (profile indexes marks nodes out : List ℕ) (r : ℕ) (numbers out′ : List ℕ) : Type 0 where
+  pub answer : r ≡ (writeList profile indexes marks nodes (length out)) .numbers .answer
+  pub others : numbers ≡ (writeList profile indexes marks nodes (length out)) .numbers .others
+  pub in-out : out′ ≡ over ((writeList profile indexes marks nodes (length out)) .written) out

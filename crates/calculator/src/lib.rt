@@ -1,11 +1,13 @@
 // The library that a user links: the public calls under C names. Each returns document 01's number and stores the other numbers in `numbers`.
 use domain_list::read::read_include;
+use list_writer::writer::write_list;
 use model::ProfileAnswer;
 use model::ReadAnswer;
+use model::WriteAnswer;
 use profile::check_profile;
 ghost use mathlib.Core.Path.{_≡_};
 ghost use Rattle.model.specs.Calls.{checkProfile};
-ghost use Rattle.calculator.specs.Exports.{ReadExport};
+ghost use Rattle.calculator.specs.Exports.{ReadExport, WriteExport};
 
 // numbers: place
 #[no_mangle]
@@ -45,6 +47,31 @@ pub extern "C" fn yq_read_include(
             0
         }
         ReadAnswer::Refused(r) => {
+            *numbers = [r.place, 0];
+            r.number
+        }
+    }
+}
+
+// numbers: place, how many bytes
+#[no_mangle]
+pub extern "C" fn yq_write_list(
+    profile: &[u8],
+    domains: &[u16],
+    pinned: &[u8],
+    pins: &[u32],
+    out: &mut [u8],
+    numbers: &mut [u32; 2],
+) -> u32
+    ensures { λ r. ⌜ WriteExport (now (profile .entry)) (now (domains .entry)) (now (pinned .entry)) (now (pins .entry)) (now (out .entry)) r (now (numbers .exit)) (now (out .exit)) ⌝ }
+{
+    let answer = write_list(profile, domains, pinned, pins, out);
+    match answer {
+        WriteAnswer::Written { length } => {
+            *numbers = [0, length];
+            0
+        }
+        WriteAnswer::Refused(r) => {
             *numbers = [r.place, 0];
             r.number
         }

@@ -39,7 +39,9 @@ pub mod SoundDomains
 pub mod WrittenItems
 pub mod NumberLists
 pub mod ReadItems
+pub mod Stops
 pub mod ReadsBack
+pub mod RoundTrip
 pub mod Claims
 pub mod Walk
 pub mod Words

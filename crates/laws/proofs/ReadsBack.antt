@@ -3,58 +3,27 @@
 use Prim.Native.Nat.{ℕ, zero, suc, _^_, _≤_, _<_}
 use native.Mathlib.Omega.{arith}
 use mathlib.Core.Path.{_≡_, refl, ap, _∙_}
-use mathlib.Core.Bool.{true, false, not}
+use mathlib.Core.Bool.{false}
 use mathlib.Core.List.{List, [], _∷_}
 use mathlib.Core.Option.{none}
 use lib.ListN.{length, getD}
-use lib.Dec.{eqb, leb, ltb}
-use borrow.Author.Tests.{eqb-true, eqb-false, ltb-false, leb-false, lt-leb, le-ltb, not-false}
+use lib.Dec.{eqb, leb}
+use borrow.Author.Tests.{eqb-true, leb-false, lt-leb, le-ltb, not-false}
 use Rattle.model.specs.declared.Domain.{Domain}
 use Rattle.model.specs.declared.Verdict.the-variants.{Pass}
 use Rattle.model.specs.declared.ListKind.the-variants.{Include}
 use Rattle.model.specs.Lists.{any, allDifferent}
 use Rattle.model.specs.Profile.{version1, domainCount, profileVerdict, domains}
 use Rattle.model.specs.Subobject.{formVerdict}
-use Rattle.model.specs.Sequence.{Stop, good, domainsOf, meaning}
-use Rattle.model.specs.WrittenList.{written, pinIf, stops, firstPinned, unwritable}
+use Rattle.model.specs.Sequence.{Stop, good, meaning}
+use Rattle.model.specs.WrittenList.{written, pinIf, stops, unwritable}
 use Rattle.model.specs.Calls.{readingOf}
 use Rattle.laws.proofs.Tests.{or-neither}
 use Rattle.laws.proofs.SoundDomains.{SoundDomains, sound-domains}
 use Rattle.laws.proofs.Records.{length-domains}
 use Rattle.laws.proofs.WrittenItems.{PinFits, Writable, written-form, written-bytes, written-length}
 use Rattle.laws.proofs.ReadItems.{stops-read}
-
--- ---- what the writer accepts
-
--- the tests of number 35 that matter here, each answered
-record Accepts (ds : List Domain) (indexes marks nodes : List ℕ) : Type 0 where
-  some-domain : length indexes ≡ 0 → ⊥
-  most : length indexes ≤ 16
-  as-many-marks : length marks ≡ length indexes
-  as-many-nodes : length nodes ≡ length indexes
-  in-profile : any (λ (d : ℕ). leb (length ds) d) indexes ≡ false
-  different : allDifferent indexes ≡ true
-  unpinned : firstPinned marks ≡ false
-
-accepts : (ds : List Domain) (indexes marks nodes : List ℕ) → unwritable ds indexes marks nodes ≡ false → Accepts ds indexes marks nodes
-unfolding unwritable
-accepts ds indexes marks nodes e =
-    let h = or-neither _ (firstPinned marks) e in
-    let g = or-neither _ (any (λ (m : ℕ). ltb 1 m) marks) (h .0) in
-    let f = or-neither _ (not (allDifferent indexes)) (g .0) in
-    let d = or-neither _ (any (λ (d : ℕ). leb (length ds) d) indexes) (f .0) in
-    let c = or-neither _ (not (eqb (length nodes) (length indexes))) (d .0) in
-    let b = or-neither _ (not (eqb (length marks) (length indexes))) (c .0) in
-    let a = or-neither (eqb (length indexes) 0) (ltb 16 (length indexes)) (b .0) in
-    record {
-      some-domain = eqb-false (length indexes) 0 (a .0);
-      most = ltb-false 16 (length indexes) (a .1);
-      as-many-marks = eqb-true (length marks) (length indexes) (not-false _ (b .1));
-      as-many-nodes = eqb-true (length nodes) (length indexes) (not-false _ (c .1));
-      in-profile = d .1;
-      different = not-false (allDifferent indexes) (f .1);
-      unpinned = h .1;
-    }
+use Rattle.laws.proofs.Stops.{stops-domains, Accepts, accepts}
 
 -- ---- the sequence that lent lists stand for
 
@@ -81,13 +50,6 @@ stops-length [] ms ns = omega arith
 stops-length (i ∷ is) [] ns = omega arith
 stops-length (i ∷ is) (m ∷ ms) [] = omega arith
 stops-length (i ∷ is) (m ∷ ms) (n ∷ ns) = omega (arith, stops-length is ms ns)
-
-stops-domains : (is ms ns : List ℕ) → length ms ≡ length is → length ns ≡ length is → domainsOf (stops is ms ns) ≡ is
-unfolding stops
-stops-domains [] ms ns p q = refl
-stops-domains (i ∷ is) [] ns p q = absurd (omega arith)
-stops-domains (i ∷ is) (m ∷ ms) [] p q = absurd (omega arith)
-stops-domains (i ∷ is) (m ∷ ms) (n ∷ ns) p q = ap (λ (t : List ℕ). i ∷ t) (stops-domains is ms ns (omega arith) (omega arith))
 
 first-unpinned : (m node : ℕ) → m ≡ 0 → pinIf m node ≡ none
 first-unpinned zero node e = refl

@@ -1,0 +1,6 @@
+pub mod Scans
+pub mod Places
+pub mod Parts
+pub mod Steps
+pub mod Outcomes
+pub mod RoundTrip

@@ -1,0 +1,88 @@
+-- The outcomes of `write_list` on an accepted profile: 35, 34, or the list. By which of the checks of `writeList` refuses.
+use Prim.Native.Nat.{ℕ, _≤_, _<_}
+use native.Mathlib.Omega.{arith}
+use mathlib.Core.Path.{_≡_, refl, sym, ap, _∙_}
+use mathlib.Core.Bool.{Bool, true, false}
+use mathlib.Core.List.{List}
+use lib.Dec.{leb, ltb}
+use lib.ListN.{length, take}
+use lib.Seq.{length-take-le}
+use borrow.Author.Tests.{leb-true, leb-false, lt-ltb, le-ltb}
+use Rattle.model.specs.declared.Refusal.{Refusal}
+use Rattle.model.specs.declared.Verdict.{Verdict}
+use Rattle.model.specs.declared.Verdict.the-variants.{Pass, Refuse}
+use Rattle.model.specs.declared.WriteAnswer.{WriteAnswer}
+use Rattle.model.specs.declared.WriteAnswer.the-variants.{Written, Refused}
+use Rattle.model.specs.Lists.{over}
+use Rattle.model.specs.Verdict.{refuseIf, _andThen_}
+use Rattle.model.specs.Profile.{version1, profileVerdict, domains}
+use Rattle.model.specs.WrittenList.{stops, written, unwritable}
+use Rattle.model.specs.Answers.{numbersOfWrite, refused2, done2}
+use Rattle.model.specs.Calls.{Outcome, nothing, answerWrite, writeList}
+use Rattle.laws.proofs.Lists.{over-nothing}
+use Rattle.list_writer.specs.Writing.{Writable, AllPut, allIf, allOrNone, refusedBy, WrittenBy}
+
+module _ (profile indexes marks nodes : List ℕ) where
+  bytes : List ℕ
+  bytes = written (domains profile) (stops indexes marks nodes)
+
+  -- the outcome by what the three checks say
+  outcome-by : (room : ℕ) (v : Verdict) (u s : Bool) → profileVerdict version1 profile ≡ v → unwritable (domains profile) indexes marks nodes ≡ u
+      → ltb room (length bytes) ≡ s → writeList profile indexes marks nodes room ≡ answerWrite (v andThen refuseIf u 35 0 andThen refuseIf s 34 0) bytes
+  unfolding writeList bytes
+  outcome-by room v u s e f g i = answerWrite (e i andThen refuseIf (f i) 35 0 andThen refuseIf (g i) 34 0) bytes
+
+  by-outcome : (entry exit : List ℕ) (answer : WriteAnswer) (o : Outcome ℕ) → writeList profile indexes marks nodes (length entry) ≡ o
+      → numbersOfWrite answer ≡ o .numbers → exit ≡ over (o .written) entry → WrittenBy profile indexes marks nodes entry exit answer
+  by-outcome entry exit answer o e n b =
+      record { numbers = n ∙ ap (λ (x : Outcome ℕ). x .numbers) (sym e); buffer = b ∙ ap (λ (x : Outcome ℕ). over (x .written) entry) (sym e) }
+
+  -- a profile that is refused
+  pub refused-profile : (entry : List ℕ) (r : Refusal) → profileVerdict version1 profile ≡ Refuse r → WrittenBy profile indexes marks nodes entry entry (Refused r)
+  refused-profile entry r e = by-outcome entry entry (Refused r) (nothing (refused2 r)) (outcome-by (length entry) (Refuse r) _ _ e refl refl) refl (sym (over-nothing entry))
+
+  -- a sequence that can't be written
+  pub refused-sequence : (entry : List ℕ) (answer : WriteAnswer) → profileVerdict version1 profile ≡ Pass → unwritable (domains profile) indexes marks nodes ≡ true
+      → answer ≡ refusedBy 35 → WrittenBy profile indexes marks nodes entry entry answer
+  refused-sequence entry answer e f a =
+      by-outcome entry entry answer (nothing (refused2 (record { number = 35; place = 0 }))) (outcome-by (length entry) Pass true _ e f refl) (ap numbersOfWrite a) (sym (over-nothing entry))
+
+  -- the whole list stands at the start of `buffer`, and `count` bytes of it were copied
+  module _ (w : Writable profile indexes marks nodes) (entry buffer : List ℕ) (n count : ℕ) (l : length buffer ≡ 576) (p : AllPut profile indexes marks nodes buffer n)
+      (k : count ≡ allOrNone n (length entry)) where
+    needed : length bytes ≡ n
+    unfolding bytes
+    needed = ap length (sym (p .bytes)) ∙ length-take-le n buffer (omega (arith, p .within))
+
+    all-fits : (b : Bool) → leb n (length entry) ≡ b → count ≡ allIf b n → (count ≤ n) × (count ≤ length entry)
+    all-fits true e c = let h = leb-true n (length entry) e in (omega arith, omega arith)
+    all-fits false e c = (omega arith, omega arith)
+
+    pub fits : (count ≤ length buffer) × (count ≤ length entry)
+    fits = let h = all-fits (leb n (length entry)) refl k in (omega (arith, p .within), h .1)
+
+    none-copied : (b : Bool) → leb n (length entry) ≡ b → count ≡ allIf b n → count < n → (length entry < n) × (count ≡ 0)
+    none-copied true e c h = absurd (omega arith)
+    none-copied false e c h = (leb-false n (length entry) e, c)
+
+    all-copied : (b : Bool) → leb n (length entry) ≡ b → count ≡ allIf b n → n ≤ count → (n ≤ length entry) × (count ≡ n)
+    all-copied true e c h = (leb-true n (length entry) e, c)
+    all-copied false e c h = (omega arith, omega arith)
+
+    module _ (exit : List ℕ) (x : exit ≡ over (take count buffer) entry) where
+      pub too-small : (answer : WriteAnswer) → count < n → answer ≡ refusedBy 34 → WrittenBy profile indexes marks nodes entry exit answer
+      too-small answer h a =
+          let none = none-copied (leb n (length entry)) refl k h in
+          by-outcome entry exit answer (nothing (refused2 (record { number = 34; place = 0 })))
+          (outcome-by (length entry) Pass false true (w .accepted) (w .writable) (lt-ltb (length entry) (length bytes) (omega (arith, needed))))
+          (ap numbersOfWrite a)
+          (x ∙ ap (λ (c : ℕ). over (take c buffer) entry) (none .1))
+
+      pub all-written : n ≤ count → WrittenBy profile indexes marks nodes entry exit (Written n)
+      unfolding bytes
+      all-written h =
+          let all = all-copied (leb n (length entry)) refl k h in
+          by-outcome entry exit (Written n) (record { numbers = done2 (length bytes); written = bytes })
+          (outcome-by (length entry) Pass false false (w .accepted) (w .writable) (le-ltb (length entry) (length bytes) (omega (arith, needed))))
+          (ap done2 (sym needed))
+          (x ∙ ap (λ (c : ℕ). over (take c buffer) entry) (all .1) ∙ ap (λ (s : List ℕ). over s entry) (p .bytes))

@@ -1,0 +1,76 @@
+-- Bytes put from a place on: nothing, one byte more, and one run after the other. From the library's facts on copies (`lib.Seq`'s paste) and on runs of stores.
+use mathlib.Core.Path.{_≡_, refl, sym, ap, ap₂, subst, _∙_}
+use mathlib.Core.List.{List, [], _∷_, _++_, append-assoc, append-nil}
+use Prim.Native.Nat.{ℕ, _+_, _≤_, _<_}
+use native.Mathlib.Nat.{add-zero, add-assoc}
+use native.Mathlib.Numerals.{add-one, towards-suc}
+use native.Mathlib.Omega.{arith}
+use lib.ListN.{length, getD, take, drop, set, replicate, take-append-drop, length-append, length-drop, length-replicate, getD-replicate}
+use lib.Seq.{length-take-le, take-all, take-at, drop-drop, drop-append-add, paste, paste-suc, sets-eq}
+use Rattle.list_writer.specs.Placed.{placed, Put}
+
+-- ---- one byte more of a run
+
+pub one-more : (old new run : List ℕ) (at j : ℕ) → at + j < length old → j < length run → new ≡ paste old at run j
+    → set new (at + j) (getD run j 0) ≡ paste old at run (j + 1)
+one-more old new run at j h k e = rw (e, add-one j) (paste-suc old at run j 0 h k)
+
+pub all-put : (old new run : List ℕ) (at j n : ℕ) → j ≡ n → n ≤ length run → new ≡ paste old at run j → Put at (take n run) old new (at + n)
+all-put old new run at j n e h p =
+    let l : length (take n run) ≡ n = length-take-le n run h in
+    record { holds = rw l (subst (λ (k : ℕ). new ≡ paste old at run k) e p); next = rw l refl }
+
+pub zero-more : (old new : List ℕ) (at j n : ℕ) → at + j < length old → j < n → new ≡ paste old at (replicate n 0) j
+    → set new (at + j) 0 ≡ paste old at (replicate n 0) (j + 1)
+zero-more old new at j n h k e =
+    subst (λ (x : ℕ). set new (at + j) x ≡ paste old at (replicate n 0) (j + 1)) (getD-replicate n j 0 0 k)
+    (one-more old new (replicate n 0) at j h (rw length-replicate k) e)
+
+pub zeros-put : (old new : List ℕ) (at j n : ℕ) → j ≡ n → new ≡ paste old at (replicate n 0) j → Put at (replicate n 0) old new (at + n)
+zeros-put old new at j n e p =
+    let l : length {A = ℕ} (replicate n 0) ≡ n = length-replicate n 0 in
+    subst (λ (s : List ℕ). Put at s old new (at + n)) (take-all n (replicate n 0) (omega arith)) (all-put old new (replicate n 0) at j n e (omega arith) p)
+
+-- ---- four bytes, each stored by itself
+
+pub four-put : (s : List ℕ) (at a b c d : ℕ) → at + 4 ≤ length s
+    → Put at (a ∷ b ∷ c ∷ d ∷ []) s (set (set (set (set s at a) (at + 1) b) (at + 2) c) (at + 3) d) (at + 4)
+four-put s at a b c d h = record { holds = simp towards-suc (simp towards-suc at (sets-eq (a ∷ b ∷ c ∷ d ∷ []) s at h)); next = refl }
+
+-- ---- nothing, and one run after the other
+
+pub nothing-put : (s : List ℕ) (at : ℕ) → Put at [] s s at
+nothing-put s at = record {
+  holds = sym (rw (append-nil (take at s), add-zero at) (take-append-drop at s));
+  next = sym (add-zero at);
+}
+
+module _ (old run : List ℕ) (at : ℕ) (h : at ≤ length old) where
+  head-length : length (take at old ++ run) ≡ at + length run
+  head-length = rw (length-append (take at old) run, length-take-le at old h) refl
+
+  -- the buffer up to the place after the run
+  pub placed-take : take (at + length run) (placed at run old) ≡ take at old ++ run
+  placed-take = take-at (take at old ++ run) (drop (at + length run) old) (at + length run) head-length
+
+  placed-drop : (n : ℕ) → drop (at + length run + n) (placed at run old) ≡ drop (at + length run + n) old
+  placed-drop n =
+      ap (λ (k : ℕ). drop (k + n) (placed at run old)) (sym head-length)
+      ∙ drop-append-add (take at old ++ run) (drop (at + length run) old) n
+      ∙ drop-drop n (at + length run) old
+
+  pub placed-length : at + length run ≤ length old → length (placed at run old) ≡ length old
+  placed-length k = rw (length-append (take at old ++ run) (drop (at + length run) old), head-length, length-drop) (omega arith)
+
+  pub placed-append : (more : List ℕ) → placed (at + length run) more (placed at run old) ≡ placed at (run ++ more) old
+  placed-append more =
+      rw (placed-take, placed-drop (length more), length-append run more, ← add-assoc at (length run) (length more), append-assoc (take at old) run more) refl
+
+pub put-append : {at m n : ℕ} {a b old mid new : List ℕ} → at ≤ length old → Put at a old mid m → Put m b mid new n → Put at (a ++ b) old new n
+put-append {at} {m} {n} {a} {b} {old} {mid} {new} h p q = record {
+  holds =
+      q .holds
+      ∙ ap₂ (λ (k : ℕ) (s : List ℕ). placed k b s) (p .next) (p .holds)
+      ∙ placed-append old a at h b;
+  next = q .next ∙ ap (λ (k : ℕ). k + length b) (p .next) ∙ add-assoc at (length a) (length b) ∙ ap (λ (k : ℕ). at + k) (sym (length-append a b));
+}

@@ -1,0 +1,21 @@
+-- `unwritable::counts_wrong` meets its contract: at each `return` the tests that led there give the value.
+use borrow.Author.Tests.{eq-eqb, ne-eqb, lt-ltb, le-ltb}
+use Rattle.list_writer.proofs.unwritable.counts_wrong.Statement.{statement}
+use Rattle.list_writer.proofs.unwritable.counts_wrong.Tie as tie
+use Rattle.list_writer.proofs.unwritable.counts_wrong.Reads as reads
+use Rattle.list_writer.proofs.unwritable.counts_wrong.Lts as lts
+
+returns : tie.Need-returns
+returns c = simp (eq-eqb _ _ (c .if1 .taken))
+
+returns-2 : tie.Need-returns-2
+returns-2 c = simp (ne-eqb _ _ (c .before .if1 .left), lt-ltb _ _ (c .if2 .taken))
+
+returns-3 : tie.Need-returns-3
+returns-3 c = simp (ne-eqb _ _ (c .before .before .if1 .left), le-ltb _ _ (c .before .if2 .left), ne-eqb _ _ (c .if3 .taken))
+
+returns-4 : tie.Need-returns-4
+returns-4 c = simp (ne-eqb _ _ (c .before .before .if1 .left), le-ltb _ _ (c .before .if2 .left), eq-eqb _ _ (c .if3 .left))
+
+pub counts-wrong-spec : {M : Type 1} → statement M
+counts-wrong-spec = tie.close (tie.spec returns returns-2 returns-3 returns-4)

@@ -1,0 +1,112 @@
+// `write_list`: the list of a sequence of domains and their entry constraints.
+ghost use mathlib.Core.Path.{_≡_};
+ghost use Prim.Native.Nat.{_+_, _-_, _≤_, _<_};
+ghost use lib.ListN.{length, take};
+ghost use Rattle.model.specs.declared.Verdict.the-variants.{Pass};
+ghost use Rattle.model.specs.Lists.{over};
+ghost use Rattle.model.specs.Profile.{version1, profileVerdict, domains};
+ghost use Rattle.list_writer.specs.Writing.{systemAgain, Writable, AllPut, allOrNone, refusedBy, WrittenBy};
+use crate::put::put_stop;
+use crate::unwritable::unwritable;
+use model::Refusal;
+use model::Verdict;
+use model::WriteAnswer;
+use profile::domain::domain_at;
+use profile::verdict_on;
+
+// Domain i is not the first, and its AS is the one before.
+fn same_system(i: usize, before: u32, asn: u32) -> bool
+    ensures { λ r. ⌜ r ≡ systemAgain i before asn ⌝ }
+{
+    if i == 0 {
+        return false;
+    }
+    asn == before
+}
+
+// The whole list into the start of a buffer that has room for the longest. Its length is the answer.
+fn put_all(profile: &[u8], indexes: &[u16], marks: &[u8], nodes: &[u32], out: &mut [u8]) -> usize
+    requires { ⌜ Writable (now profile) (now indexes) (now marks) (now nodes) × (length (now out) ≡ 576) ⌝ }
+    ensures { λ r. ⌜ AllPut (now (profile .entry)) (now (indexes .entry)) (now (marks .entry)) (now (nodes .entry)) (now (out .exit)) r ⌝ }
+{
+    let mut at = 0;
+    let mut before: u32 = 0;
+    let mut i = 0;
+    while i < indexes.len() {
+        let d = domain_at(profile, indexes[i] as usize);
+        let again = same_system(i, before, d.asn);
+        at = put_stop(out, at, marks[i], nodes[i], again, d);
+        before = d.asn;
+        i += 1;
+    }
+    at
+}
+
+// How many of `n` bytes are written into this much room: all or none.
+fn all_or_none(n: usize, room: usize) -> usize
+    ensures { λ r. ⌜ r ≡ allOrNone n room ⌝ }
+{
+    if room < n {
+        return 0;
+    }
+    n
+}
+
+// The first `n` bytes over the start of a buffer.
+fn copy_start(bytes: &[u8], n: usize, out: &mut [u8])
+    requires { ⌜ (n ≤ length (now bytes)) × (n ≤ length (now out)) ⌝ }
+    ensures { λ _. ⌜ now (out .exit) ≡ over (take n (now (bytes .entry))) (now (out .entry)) ⌝ }
+{
+    let mut i = 0;
+    while i < n {
+        out[i] = bytes[i];
+        i += 1;
+    }
+}
+
+fn refused(number: u32) -> WriteAnswer
+    ensures { λ r. ⌜ r ≡ refusedBy number ⌝ }
+{
+    WriteAnswer::Refused(Refusal { number, place: 0 })
+}
+
+// The written list for an accepted profile: 35, 34, and then the bytes.
+fn write_accepted(
+    profile: &[u8],
+    domains: &[u16],
+    pinned: &[u8],
+    pins: &[u32],
+    out: &mut [u8],
+) -> WriteAnswer
+    requires { ⌜ profileVerdict version1 (now profile) ≡ Pass ⌝ }
+    ensures { λ r. ⌜ WrittenBy (now (profile .entry)) (now (domains .entry)) (now (pinned .entry)) (now (pins .entry)) (now (out .entry)) (now (out .exit)) r ⌝ }
+{
+    if unwritable(profile, domains, pinned, pins) {
+        return refused(35);
+    }
+    let mut bytes = [0u8; 576];
+    let n = put_all(profile, domains, pinned, pins, &mut bytes);
+    let count = all_or_none(n, out.len());
+    copy_start(&bytes, count, out);
+    if count < n {
+        return refused(34);
+    }
+    WriteAnswer::Written { length: n as u32 }
+}
+
+// The list of a sequence of domains and their entry constraints, for every input: the profile's checks, 35, 34, and then the bytes.
+pub fn write_list(
+    profile: &[u8],
+    domains: &[u16],
+    pinned: &[u8],
+    pins: &[u32],
+    out: &mut [u8],
+) -> WriteAnswer
+    ensures { λ r. ⌜ WrittenBy (now (profile .entry)) (now (domains .entry)) (now (pinned .entry)) (now (pins .entry)) (now (out .entry)) (now (out .exit)) r ⌝ }
+{
+    let verdict = verdict_on(profile);
+    match verdict {
+        Verdict::Pass => write_accepted(profile, domains, pinned, pins, out),
+        Verdict::Refuse(r) => WriteAnswer::Refused(r),
+    }
+}
