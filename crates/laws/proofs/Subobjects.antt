@@ -1,6 +1,6 @@
 -- A list that is put together from subobjects is read as those subobjects: each has right form and names the same wherever it stands, and the walk steps
 -- from each to the next. Shown once for every type and both list kinds, over a subobject's length; by recursion on the subobjects.
-use Prim.Native.Nat.{ℕ, zero, suc, _+_, _-_, _≤_}
+use Prim.Native.Nat.{ℕ, zero, suc, _+_, _-_, _≤_, _<_}
 use native.Mathlib.Nat.{add-zero, add-assoc}
 use native.Mathlib.Omega.{arith}
 use mathlib.Core.Path.{_≡_, refl, sym, ap, ap₂, _∙_}
@@ -18,6 +18,7 @@ use Rattle.model.specs.Bytes.{part}
 use Rattle.model.specs.Verdict.{_andThen_}
 use Rattle.model.specs.Subobject.{Named, Subobject, known, lengthFits, topAt, typeAt, lengthAt, areaLengthAt, topWrong, prefixWrong, paddingWrong, subobjectVerdict, namedAt, subobjectAt, formFrom, formVerdict, subobjectsFrom, subobjects}
 use Rattle.laws.proofs.Numbers.{number-shift}
+use Rattle.laws.proofs.Walk.{form-step, form-end, subobjects-step, subobjects-end}
 
 -- what the form check looks at, one fact for each of its tests, in its order
 pub record RightForm (k : ListKind) (s : List ℕ) (at : ℕ) : Type 0 where
@@ -103,47 +104,17 @@ abbrev pub placed : ℕ → List Item → List Subobject
 placed at [] = []
 placed at (x ∷ xs) = record { offset = at; top = false; names = x .names } ∷ placed (at + length (x .bytes)) xs
 
--- the walk goes on past a subobject, and stops at the end
-
-form-step
-    : (fuel : ℕ) (k : ListKind) (s : List ℕ) (at : ℕ)
-    → ltb at (length s) ≡ true
-    → subobjectVerdict k s at ≡ Pass
-    → formFrom (suc fuel) k s at ≡ formFrom fuel k s (at + lengthAt s at)
-unfolding formFrom
-form-step fuel k s at e v =
-    let later = formFrom fuel k s (at + lengthAt s at) in
-    ap (λ (b : Bool). elim b as (λ (x : Bool). Verdict) [ true ↦ subobjectVerdict k s at andThen later | false ↦ Pass ]) e ∙ ap (λ (w : Verdict). w andThen later) v
-
-form-end : (fuel : ℕ) (k : ListKind) (s : List ℕ) (at : ℕ) → ltb at (length s) ≡ false → formFrom (suc fuel) k s at ≡ Pass
-unfolding formFrom
-form-end fuel k s at e =
-    ap (λ (b : Bool). elim b as (λ (x : Bool). Verdict) [ true ↦ subobjectVerdict k s at andThen formFrom fuel k s (at + lengthAt s at) | false ↦ Pass ]) e
-
-subobjects-step
-    : (fuel : ℕ) (s : List ℕ) (at : ℕ)
-    → ltb at (length s) ≡ true
-    → subobjectsFrom (suc fuel) s at ≡ subobjectAt s at ∷ subobjectsFrom fuel s (at + lengthAt s at)
-unfolding subobjectsFrom
-subobjects-step fuel s at e =
-    ap (λ (b : Bool). elim b as (λ (x : Bool). List Subobject) [ true ↦ subobjectAt s at ∷ subobjectsFrom fuel s (at + lengthAt s at) | false ↦ [] ]) e
-
-subobjects-end : (fuel : ℕ) (s : List ℕ) (at : ℕ) → ltb at (length s) ≡ false → subobjectsFrom (suc fuel) s at ≡ []
-unfolding subobjectsFrom
-subobjects-end fuel s at e =
-    ap (λ (b : Bool). elim b as (λ (x : Bool). List Subobject) [ true ↦ subobjectAt s at ∷ subobjectsFrom fuel s (at + lengthAt s at) | false ↦ [] ]) e
-
 -- what is left of a list is looked at where it begins
-begins : (pre s : List ℕ) → 4 ≤ length s → ltb (length pre) (length (pre ++ s)) ≡ true
-begins pre s h = lt-ltb (length pre) (length (pre ++ s)) (omega (arith, length-append pre s))
+begins : (pre s : List ℕ) → 4 ≤ length s → length pre < length (pre ++ s)
+begins pre s h = omega (arith, length-append pre s)
 
-ended : (pre : List ℕ) → ltb (length pre) (length (pre ++ [])) ≡ false
-ended pre = rw append-nil (le-ltb (length pre) (length pre) (omega arith))
+ended : (pre : List ℕ) → length (pre ++ []) ≤ length pre
+ended pre = rw append-nil (omega arith)
 
 module _ (k : ListKind) where
   -- the subobject at the end of `pre`: the list goes on, its form passes, the next offset is the end of its bytes, and it is what its item says
   module _ (pre : List ℕ) (x : Item) (rest : List ℕ) (h : Encoded k x) where
-    there : ltb (length pre) (length (pre ++ (x .bytes ++ rest))) ≡ true
+    there : length pre < length (pre ++ (x .bytes ++ rest))
     there = begins pre (x .bytes ++ rest) (omega (arith, h .long, length-append (x .bytes) rest))
 
     passing : subobjectVerdict k (pre ++ (x .bytes ++ rest)) (length pre) ≡ Pass
@@ -161,9 +132,10 @@ module _ (k : ListKind) where
   pub form-joined : (fuel : ℕ) (pre : List ℕ) (xs : List Item) → AllEncoded k xs → formFrom fuel k (pre ++ joined xs) (length pre) ≡ Pass
   unfolding formFrom
   form-joined zero pre xs h = refl
-  form-joined (suc fuel) pre [] h = form-end fuel k (pre ++ []) (length pre) (ended pre)
+  form-joined (suc fuel) pre [] h = form-end (suc fuel) k (pre ++ []) (length pre) (ended pre)
   form-joined (suc fuel) pre (x ∷ xs) h =
-      form-step fuel k (pre ++ (x .bytes ++ joined xs)) (length pre) (there pre x (joined xs) (h .0)) (passing pre x (joined xs) (h .0))
+      form-step k (pre ++ (x .bytes ++ joined xs)) (length pre) fuel (there pre x (joined xs) (h .0))
+      ∙ ap (λ (v : Verdict). v andThen formFrom fuel k (pre ++ (x .bytes ++ joined xs)) (length pre + lengthAt (pre ++ (x .bytes ++ joined xs)) (length pre))) (passing pre x (joined xs) (h .0))
       ∙ ap₂ (formFrom fuel k) (sym (append-assoc pre (x .bytes) (joined xs))) (onward pre x (joined xs) (h .0))
       ∙ form-joined fuel (pre ++ x .bytes) xs (h .1)
 
@@ -175,14 +147,14 @@ module _ (k : ListKind) where
   unfolding subobjectsFrom
   subobjects-joined zero pre [] h f = refl
   subobjects-joined zero pre (x ∷ xs) h f = absurd (omega (arith, f, h .0 .long, length-append (x .bytes) (joined xs)))
-  subobjects-joined (suc fuel) pre [] h f = subobjects-end fuel (pre ++ []) (length pre) (ended pre)
+  subobjects-joined (suc fuel) pre [] h f = subobjects-end (suc fuel) (pre ++ []) (length pre) (ended pre)
   subobjects-joined (suc fuel) pre (x ∷ xs) h f =
       let enough : length (joined xs) ≤ fuel = omega (arith, f, h .0 .long, length-append (x .bytes) (joined xs)) in
       let later =
       ap₂ (subobjectsFrom fuel) (sym (append-assoc pre (x .bytes) (joined xs))) (onward pre x (joined xs) (h .0))
       ∙ subobjects-joined fuel (pre ++ x .bytes) xs (h .1) enough
       ∙ ap (λ (o : ℕ). placed o xs) (length-append pre (x .bytes)) in
-      subobjects-step fuel (pre ++ (x .bytes ++ joined xs)) (length pre) (there pre x (joined xs) (h .0))
+      subobjects-step (pre ++ (x .bytes ++ joined xs)) (length pre) fuel (there pre x (joined xs) (h .0))
       ∙ ap₂ {C = List Subobject} (λ (y : Subobject) (ys : List Subobject). y ∷ ys) (itself pre x (joined xs) (h .0)) later
 
   -- a whole list

@@ -70,7 +70,7 @@ module _ (k : ListKind) (s : List ℕ) (at fuel : ℕ) where
   form-choice : Bool → Verdict
   form-choice b = elim b as (λ (x : Bool). Verdict) [ true ↦ subobjectVerdict k s at andThen formFrom fuel k s (at + lengthAt s at) | false ↦ Pass ]
 
-  form-step : at < length s → formFrom (suc fuel) k s at ≡ subobjectVerdict k s at andThen formFrom fuel k s (at + lengthAt s at)
+  pub form-step : at < length s → formFrom (suc fuel) k s at ≡ subobjectVerdict k s at andThen formFrom fuel k s (at + lengthAt s at)
   unfolding formFrom form-choice
   form-step h = ap form-choice (lt-ltb at (length s) h)
 
