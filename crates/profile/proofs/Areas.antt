@@ -1,17 +1,18 @@
 -- Areas of domain records: the copy of the bytes one at a time, the scan for a byte that is not zero, and the lengths of each kind.
-use mathlib.Core.Path.{_≡_, refl, sym, ap, ap₂, subst, _∙_}
-use mathlib.Core.Bool.{Bool, true, false, _&&_, _||_}
+use mathlib.Core.Path.{_≡_, refl, _∙_}
+use mathlib.Core.Bool.{Bool, true, false, _&&_}
 use mathlib.Core.List.{List, [], _∷_, _++_, append-nil}
 use Prim.Native.Nat.{ℕ, zero, suc, _+_, _<_, _≤_}
 use native.Mathlib.Numerals.{add-one}
 use native.Mathlib.Omega.{arith}
-use borrow.Author.Tests.{lt-ltb, le-ltb, le-leb, lt-leb, leb-true, ne-eqb, eqb-true, eqb-false}
+use borrow.Author.Tests.{le-leb, lt-leb, leb-true, ne-eqb, eqb-true, eqb-false}
 use lib.ListN.{length, getD, take, drop, set, drop-of-length-le, length-drop}
 use lib.Seq.{drop-cons, take-suc, append-snoc, set-at, getD-drop, length-take-le}
 use lib.Dec.{eqb, leb}
 use Rattle.model.specs.Lists.{all, any}
 use Rattle.model.specs.Bytes.{part, allZero}
 use Rattle.model.specs.Profile.{areaLengthFits}
+use Rattle.profile.proofs.Booleans.{or-false}
 
 copy-step : (src d : List ℕ) (j : ℕ) → j < length src → j < length d
     → set (take j src ++ drop j d) j (getD src j 0) ≡ take (suc j) src ++ drop (suc j) d
@@ -49,10 +50,6 @@ unfolding allZero all
 no-byte a j h = rw (drop-of-length-le a h) refl
 
 -- ---- the lengths of each kind
-
-or-false : (b : Bool) → b || false ≡ b
-or-false true = refl
-or-false false = refl
 
 exactly : (a n : ℕ) → leb a n && leb n a ≡ eqb n a
 exactly a n = go (eqb n a) refl

@@ -1,23 +1,24 @@
 -- The entry nodes of one pair of domains, noted as the records pass: what is noted are the different heads of the pair's records so far, each once, so
 -- their number is that of the definition; and a record of another pair starts afresh.
 use mathlib.Core.Path.{_≡_, refl, sym, ap, ap₂, subst, subst₂, _∙_}
-use mathlib.Core.Bool.{Bool, true, false, cond, not, _&&_, _||_, true≢false}
+use mathlib.Core.Bool.{Bool, true, false, cond, _&&_, _||_, true≢false}
 use mathlib.Core.List.{List, [], _∷_, _++_, map}
 use Prim.Native.Nat.{ℕ, zero, suc, _+_, _<_, _≤_}
 use native.Mathlib.Nat.{suc-ne-zero}
 use native.Mathlib.Numerals.{add-one}
 use native.Mathlib.Omega.{arith}
-use borrow.Author.Tests.{eqb-true, eqb-false, eq-eqb, ne-eqb, lt-ltb, le-ltb}
-use lib.ListN.{length, getD, take, set}
-use lib.Seq.{take-suc-set}
+use borrow.Author.Tests.{eqb-true, eq-eqb, ne-eqb}
+use lib.ListN.{length, getD, take}
 use lib.Dec.{eqb, ltb}
 use Rattle.model.specs.declared.Hop.{Hop}
-use Rattle.model.specs.Lists.{keep, keepIf, any, among, different}
+use Rattle.model.specs.Lists.{keep, keepIf, among, different}
 use Rattle.model.specs.Profile.{Layout, hopCount, hopAt, hops, hopMisordered, between, entryNodes, crowded}
-use Rattle.laws.proofs.Different.{oneMore, among-append, different-count}
+use Rattle.laws.proofs.Different.{oneMore, different-count}
 use Rattle.profile.specs.Layout.{HopsWithin}
 use Rattle.profile.proofs.Records.{take-hops}
-use Rattle.profile.proofs.Pairs.{both-true, first-of-pair}
+use Rattle.profile.proofs.Padding.{snoc-among}
+use Rattle.profile.proofs.Pairs.{first-of-pair}
+use Rattle.profile.proofs.Booleans.{both-true}
 
 abbrev heads : List Hop → List ℕ
 heads hs = map (λ (h : Hop). h .head .0) hs
@@ -68,18 +69,6 @@ oneMore-cond : (t : Bool) (n : ℕ) → oneMore t n ≡ cond t n (n + 1)
 oneMore-cond true n = refl
 oneMore-cond false n = sym (add-one n)
 
-already : (y x : ℕ) (xs : List ℕ) → among x xs ≡ true → among y xs ≡ among y (xs ++ (x ∷ []))
-unfolding among any
-already y x xs here = sym (among-append y xs (x ∷ []) ∙ go (eqb y x) refl)
-  where
-    or-false : (t : Bool) → t || false ≡ t
-    or-false true = refl
-    or-false false = refl
-
-    go : (t : Bool) → eqb y x ≡ t → among y xs || (t || false) ≡ among y xs
-    go true e = rw (ap (λ (k : ℕ). among k xs) (eqb-true y x e) ∙ here) refl
-    go false e = or-false (among y xs)
-
 -- ---- one record more of the pair
 
 module _ (L : Layout) (s : List ℕ) (i : ℕ) (h : i < hopCount s) (noted : List ℕ) (count : ℕ) (n : Noted L s (hopAt L s i .from .0) (hopAt L s i .to .0) i noted count) where
@@ -96,30 +85,19 @@ module _ (L : Layout) (s : List ℕ) (i : ℕ) (h : i < hopCount s) (noted : Lis
   unfolding crowded
   crowded-number apart = rw (ne-eqb (hopAt L s i .from .0) (hopAt L s i .to .0) apart, entered) refl
 
-  pub noted-more : (a : Bool) → among (hopAt L s i .head .0) (take count noted) ≡ a → cond a count (count + 1) ≤ length noted
-      → Noted L s (hopAt L s i .from .0) (hopAt L s i .to .0) (suc i) (cond a noted (set noted count (hopAt L s i .head .0))) (cond a count (count + 1))
+  pub noted-more : (new : List ℕ) (after : ℕ) → after ≡ cond (among (hopAt L s i .head .0) (take count noted)) count (count + 1)
+      → ((y : ℕ) → among y (take after new) ≡ among y (take count noted) || eqb y (hopAt L s i .head .0))
+      → Noted L s (hopAt L s i .from .0) (hopAt L s i .to .0) (suc i) new after
   unfolding entryNodes
-  noted-more true e room =
+  noted-more new after number adds =
       record {
         same =
             λ (y : ℕ).
-            n .same y
-            ∙ already y (hopAt L s i .head .0) (seen L s (hopAt L s i .from .0) (hopAt L s i .to .0) i) (sym (n .same (hopAt L s i .head .0)) ∙ e)
+            adds y
+            ∙ ap (λ (t : Bool). t || eqb y (hopAt L s i .head .0)) (n .same y)
+            ∙ sym (snoc-among y (hopAt L s i .head .0) (seen L s (hopAt L s i .from .0) (hopAt L s i .to .0) i))
             ∙ sym (ap (among y) (seen-own L s i h));
-        counted = sym (entered ∙ ap (λ (t : Bool). cond t count (count + 1)) e);
-      }
-  noted-more false e room =
-      let stored : take (count + 1) (set noted count (hopAt L s i .head .0)) ≡ take count noted ++ (hopAt L s i .head .0 ∷ []) =
-      ap (λ (k : ℕ). take k (set noted count (hopAt L s i .head .0))) (add-one count) ∙ take-suc-set noted count (hopAt L s i .head .0) (omega arith) in
-      record {
-        same =
-            λ (y : ℕ).
-            ap (among y) stored
-            ∙ among-append y (take count noted) (hopAt L s i .head .0 ∷ [])
-            ∙ ap (λ (t : Bool). t || among y (hopAt L s i .head .0 ∷ [])) (n .same y)
-            ∙ sym (among-append y (seen L s (hopAt L s i .from .0) (hopAt L s i .to .0) i) (hopAt L s i .head .0 ∷ []))
-            ∙ sym (ap (among y) (seen-own L s i h));
-        counted = sym (entered ∙ ap (λ (t : Bool). cond t count (count + 1)) e);
+        counted = number ∙ sym entered;
       }
 
 pub within-domain : (L : Layout) (s : List ℕ) (i : ℕ) → hopAt L s i .from .0 ≡ hopAt L s i .to .0 → crowded L s i ≡ false

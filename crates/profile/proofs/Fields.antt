@@ -1,30 +1,42 @@
 -- Where the fields of a profile stand: the mark as a word and a byte, where a hop record starts, that records before others start before them,
 -- and which bits are no NaN's.
-use mathlib.Core.Path.{_≡_, refl, ap, subst, _∙_}
+use mathlib.Core.Path.{_≡_}
 use mathlib.Core.Bool.{not}
 use mathlib.Core.List.{List}
-use Prim.Native.Nat.{ℕ, suc, _+_, _-_, _*_, _/_, _%_, _<_, _≤_}
+use Prim.Native.Nat.{ℕ, _+_, _-_, _*_, _/_, _%_, _<_, _≤_}
 use native.Mathlib.Nat.{mul-le-mul-left, mul-suc}
 use native.Mathlib.Omega.{arith}
 use borrow.Author.Tests.{ne-eqb}
-use lib.ListN.{getD, length}
+use lib.ListN.{getD}
 use lib.Dec.{T}
 use lib.Ieee.{binary32, nanBits}
 use Rattle.model.specs.Bytes.{number}
-use Rattle.model.specs.Profile.{Layout, domainCount, hopStart}
+use Rattle.model.specs.Profile.{Layout, hopStart}
+use Rattle.laws.proofs.BigEndian.{number-add, number-bound}
 use Rattle.profile.specs.Layout.{HopWithin, HopsWithin}
 
 pub mark : (s : List ℕ) → number 3 s 0 ≡ number 2 s 0 * 256 + getD s 2 0
 unfolding number
 mark s = omega arith
 
-pub start : (L : Layout) (s : List ℕ) (domains i at : ℕ) → at ≡ 12 + 20 * domains + L .hopSize * i → domains ≡ domainCount s → at ≡ hopStart L s i
-start L s domains i at e d = e ∙ ap (λ (n : ℕ). 12 + 20 * n + L .hopSize * i) d
+-- a pair of domains as the two halves of a word
+pub pair-from : (s : List ℕ) (at : ℕ) → ((i : ℕ) → getD s i 0 < 256) → number 4 s at / 65536 ≡ number 2 s at
+pair-from s at bytes =
+    let low : number 2 s (at + 2) < 65536 = number-bound 2 s (at + 2) bytes in
+    omega (arith, number-add 2 2 s at)
+
+pub pair-to : (s : List ℕ) (at : ℕ) → ((i : ℕ) → getD s i 0 < 256) → number 4 s at % 65536 ≡ number 2 s (at + 2)
+pair-to s at bytes =
+    let low : number 2 s (at + 2) < 65536 = number-bound 2 s (at + 2) bytes in
+    omega (arith, number-add 2 2 s at)
 
 pub starts-before : (L : Layout) (s : List ℕ) (i : ℕ) → hopStart L s (i - 1) ≤ hopStart L s i
 starts-before L s i =
     let less : i - 1 ≤ i = omega arith in
     omega (arith, mul-le-mul-left (L .hopSize) less)
+
+pub within-before : (L : Layout) (s : List ℕ) (i : ℕ) → HopWithin L s i → HopWithin L s (i - 1)
+within-before L s i w = record { layout = w .layout; inside = omega (arith, w .inside, starts-before L s i) }
 
 pub hop-within : (L : Layout) (s : List ℕ) (i n : ℕ) → HopsWithin L s n → i < n → HopWithin L s i
 hop-within L s i n w h =

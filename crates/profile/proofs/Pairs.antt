@@ -1,13 +1,13 @@
 -- Records in strict order by (D, E, u, v) have their pairs (D, E) in order too, so the records of one pair stand together: a record whose pair is not
 -- that of the record before it is the first of its pair. The pair is compared as the number of the record's first four bytes.
-use mathlib.Core.Path.{_≡_, refl, sym, ap, ap₂, subst, _∙_}
-use mathlib.Core.Bool.{Bool, true, false, not, _&&_, _||_, true≢false}
+use mathlib.Core.Path.{_≡_, refl, sym, subst, _∙_}
+use mathlib.Core.Bool.{Bool, true, false, _&&_, _||_, true≢false}
 use mathlib.Core.List.{List}
-use Prim.Native.Nat.{ℕ, zero, suc, _+_, _*_, _-_, _<_, _≤_}
-use native.Mathlib.Nat.{mul-le-mul-left, mul-suc, le-refl, le-trans}
+use Prim.Native.Nat.{ℕ, zero, suc, _+_, _*_, _<_, _≤_}
+use native.Mathlib.Nat.{le-refl}
 use native.Mathlib.Omega.{arith}
 use borrow.Author.Tests.{ltb-true, leb-true, leb-false, eqb-true, eq-eqb, not-false}
-use lib.ListN.{length, getD}
+use lib.ListN.{getD}
 use lib.Dec.{ltb, leb, eqb}
 use Rattle.model.specs.Lists.{below}
 use Rattle.model.specs.Bytes.{number, part}
@@ -16,6 +16,7 @@ use Rattle.laws.proofs.BigEndian.{number-add, number-bound}
 use Rattle.laws.proofs.Words.{below-word}
 use Rattle.profile.specs.Layout.{HopsWithin}
 use Rattle.profile.proofs.Fields.{hop-within}
+use Rattle.profile.proofs.Booleans.{both-true}
 
 not-above : (x y : ℕ) (rest : Bool) → ltb x y || (eqb x y && rest) ≡ true → x ≤ y
 not-above x y rest e = go (ltb x y) (eqb x y) refl refl e
@@ -24,10 +25,6 @@ not-above x y rest e = go (ltb x y) (eqb x y) refl refl e
     go true u p q h = omega (arith, ltb-true x y p)
     go false true p q h = omega (arith, eqb-true x y q)
     go false false p q h = absurd (true≢false (sym h))
-
-pub both-true : (a b : Bool) → a && b ≡ true → (a ≡ true) × (b ≡ true)
-both-true true b e = (refl, e)
-both-true false b e = absurd (true≢false (sym e))
 
 module _ (L : Layout) (s : List ℕ) (n : ℕ) (bytes : (i : ℕ) → getD s i 0 < 256) (within : HopsWithin L s n) (ordered : (k : ℕ) → k < n → hopMisordered L s k ≡ false) where
   pair-parts : (j : ℕ) → number 4 s (hopStart L s j) ≡ number 2 s (hopStart L s j) * 65536 + number 2 s (hopStart L s j + 2)

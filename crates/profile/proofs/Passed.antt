@@ -1,6 +1,6 @@
--- What hop records that passed their checks have: a bandwidth that is a number, and their order.
-use mathlib.Core.Path.{_≡_, refl, sym, _∙_}
-use mathlib.Core.Bool.{Bool, true, false, true≢false, _||_}
+-- What passing says: hop records have a bandwidth that is a number, and their order; a header stands in a file of its length.
+use mathlib.Core.Path.{_≡_}
+use mathlib.Core.Bool.{Bool, false, _||_}
 use mathlib.Core.List.{List}
 use Prim.Native.Nat.{ℕ, _+_, _<_, _≤_}
 use borrow.Author.Tests.{leb-false, ltb-false, eqb-true, not-false}
@@ -11,9 +11,10 @@ use Rattle.model.specs.declared.Verdict.the-variants.{Pass}
 use Rattle.model.specs.Verdict.{refuseIf, _andThen_, inTurn}
 use Rattle.model.specs.Profile.{Layout, domainCount, bandwidthBits, hopAt, hopMalformed, hopMisordered, hopVerdict, hopStart, hopCount, headerWrong, countsWrong, lengthWrong, headerVerdict}
 use Rattle.laws.proofs.Turns.{andThen-pass, refuseIf-pass, inTurn-pass-all}
+use Rattle.profile.proofs.Booleans.{or-right}
 
 -- the halves of the laws that are used here
-both-pass : (v w : Verdict) → v andThen w ≡ Pass → (v ≡ Pass) × (w ≡ Pass)
+pub both-pass : (v w : Verdict) → v andThen w ≡ Pass → (v ≡ Pass) × (w ≡ Pass)
 both-pass v w e = andThen-pass v w .0 e
 
 not-refused : (t : Bool) (n p : ℕ) → refuseIf t n p ≡ Pass → t ≡ false
@@ -22,17 +23,13 @@ not-refused t n p e = refuseIf-pass t n p .0 e
 first-passes : (check : ℕ → Verdict) (n : ℕ) → inTurn check 0 n ≡ Pass → (k : ℕ) → k < n → check k ≡ Pass
 first-passes check n e = inTurn-pass-all check n .0 e
 
-pub or-right : (a b : Bool) → a || b ≡ false → b ≡ false
-or-right true b e = absurd (true≢false e)
-or-right false b e = e
-
-pub or-left : (a b : Bool) → a || b ≡ false → a ≡ false
-or-left true b e = e
-or-left false b e = refl
-
 pub numeric-bandwidth : (L : Layout) (s : List ℕ) (i : ℕ) → hopMalformed L s i ≡ false → bandwidthBits L s i < 0x7f800000
 unfolding hopMalformed hopAt
-numeric-bandwidth L s i e = leb-false 0x7f800000 (bandwidthBits L s i) (or-right (leb (domainCount s) (hopAt L s i .from .0) || leb (domainCount s) (hopAt L s i .to .0) || ltb (L .mostCost) (hopAt L s i .cost)) (leb 0x7f800000 (bandwidthBits L s i)) e)
+numeric-bandwidth L s i e =
+    leb-false 0x7f800000 (bandwidthBits L s i)
+    (or-right (leb (domainCount s) (hopAt L s i .from .0) || leb (domainCount s) (hopAt L s i .to .0) || ltb (L .mostCost) (hopAt L s i .cost))
+    (leb 0x7f800000 (bandwidthBits L s i))
+    e)
 
 -- a hop record that passed is neither malformed nor out of order
 pub passed-hop : (L : Layout) (s : List ℕ) (i : ℕ) → hopVerdict L s i ≡ Pass → (hopMalformed L s i ≡ false) × (hopMisordered L s i ≡ false)

@@ -1,6 +1,6 @@
 -- The scan of the table of reserved ranges: what is left from an index on decides, as long as no range passed holds the number.
 -- The code's table is the definitions' one, entry by entry, by computation.
-use mathlib.Core.Path.{_≡_, refl, ap, sym, _∙_}
+use mathlib.Core.Path.{_≡_, refl}
 use mathlib.Core.Bool.{Bool, true, false, cond, not, _&&_, _||_}
 use mathlib.Core.List.{List, [], _∷_, map}
 use native.Mathlib.Nat.{suc-ne-zero}
@@ -8,7 +8,7 @@ use Prim.Native.Nat.{ℕ, zero, suc, _+_, _<_, _≤_}
 use native.Mathlib.Numerals.{add-one}
 use native.Mathlib.Omega.{arith}
 use borrow.Author.Tests.{le-leb, lt-leb, ne-eqb}
-use lib.ListN.{length, getD, List·getD-map, length-map}
+use lib.ListN.{getD, List·getD-map}
 use lib.Seq.{slice, slice-cons, slice-empty}
 use lib.Dec.{leb, eqb}
 use Rattle.model.specs.Lists.{any}

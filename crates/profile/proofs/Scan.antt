@@ -1,7 +1,7 @@
 -- The scan for a number among the first of a list: what is found once one element more is passed.
-use mathlib.Core.Path.{_≡_, refl, sym, ap, _∙_}
-use mathlib.Core.Bool.{Bool, true, false, _||_}
-use mathlib.Core.List.{List, [], _∷_, _++_}
+use mathlib.Core.Path.{_≡_, refl}
+use mathlib.Core.Bool.{_||_}
+use mathlib.Core.List.{List, [], _∷_}
 use Prim.Native.Nat.{ℕ, _+_, _<_}
 use native.Mathlib.Numerals.{add-one}
 use lib.ListN.{length, getD, take}
@@ -9,10 +9,7 @@ use lib.Seq.{take-suc}
 use lib.Dec.{eqb}
 use Rattle.model.specs.Lists.{any, among}
 use Rattle.laws.proofs.Different.{eqb-sym, among-append}
-
-or-false : (t : Bool) → t || false ≡ t
-or-false true = refl
-or-false false = refl
+use Rattle.profile.proofs.Booleans.{or-false}
 
 pub found-next : (xs : List ℕ) (x j : ℕ) → j < length xs → among x (take j xs) || eqb (getD xs j 0) x ≡ among x (take (j + 1) xs)
 unfolding among any

@@ -1,8 +1,8 @@
 -- Comparing records a word of four bytes at a time: where the words differ they decide, and where they are the same the rest does.
-use mathlib.Core.Path.{_≡_, refl, sym, subst}
-use mathlib.Core.Bool.{Bool, true, false, _&&_, _||_}
-use mathlib.Core.List.{List, [], _∷_}
-use Prim.Native.Nat.{ℕ, zero, suc, _+_, _*_, _-_, _<_, _≤_}
+use mathlib.Core.Path.{_≡_, refl, subst}
+use mathlib.Core.Bool.{true, false, _&&_, _||_}
+use mathlib.Core.List.{List}
+use Prim.Native.Nat.{ℕ, _+_, _*_, _-_, _<_, _≤_}
 use native.Mathlib.Omega.{arith}
 use borrow.Author.Tests.{lt-ltb, le-ltb, eq-eqb, ne-eqb}
 use lib.ListN.{length, getD}
@@ -12,9 +12,6 @@ use Rattle.model.specs.Bytes.{number, part}
 use Rattle.laws.proofs.Words.{below-word}
 
 module _ (s : List ℕ) (a b left : ℕ) (bytes : (i : ℕ) → getD s i 0 < 256) (some : 0 < left) (fa : a + 4 * left ≤ length s) (fb : b + 4 * left ≤ length s) where
-  rest : ℕ
-  rest = 4 * (left - 1)
-
   step : below (part s a (4 * left)) (part s b (4 * left))
       ≡ ltb (number 4 s a) (number 4 s b) || (eqb (number 4 s a) (number 4 s b) && below (part s (a + 4) (4 * (left - 1))) (part s (b + 4) (4 * (left - 1))))
   step =

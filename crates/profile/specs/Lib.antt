@@ -2,3 +2,4 @@
 pub mod Layout
 pub mod Reserved
 pub mod Misplaced
+pub mod Noting

@@ -1,41 +1,49 @@
 // Check 19: at most 16 entry nodes for each pair of different domains. The records of a pair stand together, so one pass notes the different entry nodes
 // of the current pair and no more.
+use crate::header::domain_count;
+use crate::header::hop_count;
 use crate::hop::hop_at;
 use crate::layout::Layout;
 use crate::verdict::refuse;
 use model::Verdict;
 ghost use mathlib.Core.Path.{_≡_};
 ghost use mathlib.Core.Bool.{cond, _&&_};
-ghost use Prim.Native.Nat.{_+_, _≤_, _<_};
-ghost use lib.ListN.{length, take, set};
+ghost use Prim.Native.Nat.{_+_, _≤_};
+ghost use lib.ListN.{length, take};
 ghost use lib.Dec.{eqb};
 ghost use Rattle.model.specs.declared.Verdict.the-variants.{Pass};
 ghost use Rattle.model.specs.Lists.{among};
 ghost use Rattle.model.specs.Verdict.{inTurn};
-ghost use Rattle.model.specs.Profile.{domainCount, hopCount, hopVerdict, crowdedVerdict};
+ghost use Rattle.model.specs.Profile.{hopCount, hopVerdict, crowdedVerdict};
 ghost use Rattle.profile.specs.Layout.{layoutOf, HopsWithin};
+ghost use Rattle.profile.specs.Noting.{Padded, Added};
 
-// Whether a node is among the first `count` of those noted.
-fn is_noted(noted: &[u32; 16], count: usize, node: u32) -> bool
-    requires { ⌜ (count ≤ 16) × (length (now noted) ≡ 16) ⌝ }
-    ensures { λ r. ⌜ r ≡ among node (take count (now (noted .entry))) ⌝ }
+// Whether a node is among those in the list.
+fn is_noted(noted: &[u32; 16], node: u32) -> bool
+    requires { ⌜ length (now noted) ≡ 16 ⌝ }
+    ensures { λ r. ⌜ r ≡ among node (now (noted .entry)) ⌝ }
 {
     let mut found = false;
     let mut j = 0;
-    while j < count {
+    while j < 16 {
         found = found | (noted[j] == node);
         j += 1;
     }
     found
 }
 
-// Notes a node where it is not noted yet and there is room; how many there are then, noted or not.
+// Notes a node of a pair of which `count` are noted, each once: how many there are then. A seventeenth is counted and not noted. The places past those
+// noted repeat one of them, so that all 16 are compared at once.
 fn note(noted: &mut [u32; 16], count: usize, node: u32) -> usize
-    requires { ⌜ (count ≤ 16) × (length (now noted) ≡ 16) ⌝ }
+    requires { ⌜ (count ≤ 16) × (length (now noted) ≡ 16) × Padded (now noted) count ⌝ }
     ensures { λ r. ⌜ r ≡ cond (among node (take count (now (noted .entry)))) count (count + 1) ⌝ }
-    ensures { λ _. ⌜ now (noted .exit) ≡ cond (among node (take count (now (noted .entry)))) (now (noted .entry)) (set (now (noted .entry)) count node) ⌝ }
+    ensures { λ r. ⌜ Added (now (noted .entry)) count node (now (noted .exit)) r ⌝ }
 {
-    if is_noted(&*noted, count, node) {
+    if count == 0 {
+        *noted = [node; 16];
+        return 1;
+    }
+    if is_noted(&*noted, node) {
         return count;
     }
     if count == 16 {
@@ -59,21 +67,20 @@ fn carried(count: usize, d: u16, e: u16, from: u16, to: u16) -> usize
 }
 
 // Every hop record in turn, once each has passed its own checks.
-pub fn crowded_verdict(s: &[u8], layout: Layout, domains: usize, hops: usize) -> Verdict
-    requires { ⌜ (domains < 65536) × (hops < 65536) ⌝ }
-    requires { ⌜ domains ≡ domainCount (now s) ⌝ }
-    requires { ⌜ hops ≡ hopCount (now s) ⌝ }
-    requires { ⌜ HopsWithin (layoutOf layout) (now s) hops ⌝ }
+pub fn crowded_verdict(s: &[u8], layout: Layout) -> Verdict
+    requires { ⌜ HopsWithin (layoutOf layout) (now s) (hopCount (now s)) ⌝ }
     requires { ⌜ inTurn (hopVerdict (layoutOf layout) (now s)) 0 (hopCount (now s)) ≡ Pass ⌝ }
     ensures { λ r. ⌜ r ≡ inTurn (crowdedVerdict (layoutOf layout) (now (s .entry))) 0 (hopCount (now (s .entry))) ⌝ }
 {
+    let domains = domain_count(s) as usize;
+    let hops = hop_count(s) as usize;
     let mut noted = [0u32; 16];
     let mut count: usize = 0;
     let mut d: u16 = 0;
     let mut e: u16 = 0;
     let mut i = 0;
     while i < hops {
-        let h = hop_at(s, layout, domains, i);
+        let h = hop_at(s, layout, i);
         count = carried(count, d, e, h.from.0, h.to.0);
         d = h.from.0;
         e = h.to.0;

@@ -1,4 +1,6 @@
 // Domain records read by value, and checks 14, 15 and 16 of each.
+use crate::header::class_of;
+use crate::header::domain_count;
 use crate::order::record_below;
 use crate::reserved::as_misplaced;
 use crate::verdict::first_wrong;
@@ -10,7 +12,7 @@ ghost use Prim.Native.Nat.{_+_, _≤_, _<_};
 ghost use lib.ListN.{length, drop};
 ghost use Rattle.model.specs.Bytes.{part, allZero};
 ghost use Rattle.model.specs.Verdict.{inTurn};
-ghost use Rattle.model.specs.Profile.{classOf, domainCount, domainStart, domainAt, areaLengthFits, domainMalformed, domainMisordered, domainVerdict};
+ghost use Rattle.model.specs.Profile.{domainCount, domainStart, domainAt, areaLengthFits, domainMalformed, domainMisordered, domainVerdict};
 
 fn area_at(s: &[u8], at: usize) -> [u8; 13]
     requires { ⌜ at + 13 ≤ length (now s) ⌝ }
@@ -113,25 +115,27 @@ fn domain_misordered(s: &[u8], i: usize) -> bool
     before.asn == this.asn
 }
 
-fn domain_verdict(s: &[u8], class: u8, i: usize) -> Verdict
-    requires { ⌜ (class ≡ classOf (now s)) × (i < 65536) × (domainStart i + 20 ≤ length (now s)) ⌝ }
+fn domain_verdict(s: &[u8], i: usize) -> Verdict
+    requires { ⌜ (i < 65536) × (domainStart i + 20 ≤ length (now s)) ⌝ }
     ensures { λ r. ⌜ r ≡ domainVerdict (now (s .entry)) i ⌝ }
 {
     let malformed = domain_malformed(s, i);
     let misordered = domain_misordered(s, i);
+    let class = class_of(s);
     let d = domain_at(s, i);
     let misplaced = as_misplaced(class, d.asn);
     first_wrong(malformed, misordered, misplaced, 14, 15, i as u32)
 }
 
 // Every domain record in turn.
-pub fn domains_verdict(s: &[u8], class: u8, domains: usize) -> Verdict
-    requires { ⌜ (class ≡ classOf (now s)) × (domains ≡ domainCount (now s)) × (domains < 65536) × (domainStart domains ≤ length (now s)) ⌝ }
+pub fn domains_verdict(s: &[u8]) -> Verdict
+    requires { ⌜ domainStart (domainCount (now s)) ≤ length (now s) ⌝ }
     ensures { λ r. ⌜ r ≡ inTurn (domainVerdict (now (s .entry))) 0 (domainCount (now (s .entry))) ⌝ }
 {
+    let domains = domain_count(s) as usize;
     let mut i = 0;
     while i < domains {
-        let v = domain_verdict(s, class, i);
+        let v = domain_verdict(s, i);
         match v {
             Verdict::Pass => {}
             Verdict::Refuse(r) => {

@@ -1,10 +1,7 @@
 // Profile files: the records they hold, and the check of a whole profile, numbers 10 to 19.
 use crate::crowd::crowded_verdict;
 use crate::domain::domains_verdict;
-use crate::header::class_of;
-use crate::header::domain_count;
 use crate::header::header_verdict;
-use crate::header::hop_count;
 use crate::hop::hops_verdict;
 use crate::layout::Layout;
 use crate::layout::first_version;
@@ -37,24 +34,21 @@ pub fn profile_verdict(s: &[u8], layout: Layout) -> Verdict
             return Verdict::Refuse(r);
         }
     }
-    let class = class_of(s);
-    let domains = domain_count(s) as usize;
-    let hops = hop_count(s) as usize;
-    let first = domains_verdict(s, class, domains);
+    let first = domains_verdict(s);
     match first {
         Verdict::Pass => {}
         Verdict::Refuse(r) => {
             return Verdict::Refuse(r);
         }
     }
-    let second = hops_verdict(s, layout, class, domains, hops);
+    let second = hops_verdict(s, layout);
     match second {
         Verdict::Pass => {}
         Verdict::Refuse(r) => {
             return Verdict::Refuse(r);
         }
     }
-    crowded_verdict(s, layout, domains, hops)
+    crowded_verdict(s, layout)
 }
 
 // The verdict on a profile of version 1, for every byte slice.

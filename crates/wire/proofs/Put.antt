@@ -1,5 +1,5 @@
 -- The stores that a writer makes, one byte at a time, put the bytes of the number in their place and leave the others: one fact of `lib.Seq` at every width.
-use mathlib.Core.Path.{_≡_, subst, ap, _∙_}
+use mathlib.Core.Path.{_≡_, subst}
 use mathlib.Core.List.{List, _++_}
 use Prim.Native.Nat.{ℕ, _+_, _/_, _%_, _≤_}
 use native.Mathlib.Nat.{div-one}

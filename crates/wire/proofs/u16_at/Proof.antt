@@ -1,3 +1,5 @@
+-- `wire::u16_at` meets its contract: the two bytes written out are the number, and each byte is below 256, so nothing wraps.
+-- Assumes nothing.
 use borrow.Author.Needs.{needs}
 use Prim.Native.Nat.{_+_}
 use mathlib.Core.Path.{sym}
@@ -5,38 +7,29 @@ use Rattle.laws.proofs.Words.{number-two}
 use native.Mathlib.Omega.{arith}
 use Rattle.wire.proofs.u16_at.Statement.{statement}
 use Rattle.wire.proofs.u16_at.Tie as tie
-use Rattle.wire.proofs.u16_at.Reads as reads
-use Rattle.wire.proofs.u16_at.Lts as lts
 
--- src/lib.rt:13:16
 shared-slice-read-high : tie.Need-shared-slice-read-high
 shared-slice-read-high c = search needs
 
--- src/lib.rt:13:16
 cast-high : tie.Need-cast-high
 cast-high c = omega (arith, c .shared-slice-known .given (c .before .args .at))
 
--- src/lib.rt:14:17
 add-low : tie.Need-add-low
 add-low c = search needs
 
--- src/lib.rt:14:15
 shared-slice-read-low : tie.Need-shared-slice-read-low
 shared-slice-read-low c = search needs
 
--- src/lib.rt:14:15
 cast-low : tie.Need-cast-low
 cast-low c = omega (arith, c .shared-slice-known2 .given (c .before .before .args .at + 1))
 
--- src/lib.rt:15:5
 mul-result : tie.Need-mul-result
 mul-result c = omega (arith, c .shared-slice-known2 .given (c .before .before .args .at))
 
--- src/lib.rt:15:5
 add-result : tie.Need-add-result
-add-result c = omega (arith, c .shared-slice-known2 .given (c .before .before .args .at), c .shared-slice-known2 .given (c .before .before .args .at + 1))
+add-result c =
+    omega (arith, c .shared-slice-known2 .given (c .before .before .args .at), c .shared-slice-known2 .given (c .before .before .args .at + 1))
 
--- src/lib.rt:9:1
 returns : tie.Need-returns
 returns c = sym (number-two _ _)
 

@@ -1,3 +1,5 @@
+-- `wire::u32_at` meets its contract: the four bytes written out are the number, and each byte is below 256, so nothing wraps.
+-- Assumes nothing.
 use borrow.Author.Needs.{needs}
 use Prim.Native.Nat.{_+_}
 use mathlib.Core.Path.{sym}
@@ -5,78 +7,76 @@ use Rattle.laws.proofs.Words.{number-four}
 use native.Mathlib.Omega.{arith}
 use Rattle.wire.proofs.u32_at.Statement.{statement}
 use Rattle.wire.proofs.u32_at.Tie as tie
-use Rattle.wire.proofs.u32_at.Reads as reads
-use Rattle.wire.proofs.u32_at.Lts as lts
 
--- src/lib.rt:23:17
 shared-slice-read-first : tie.Need-shared-slice-read-first
 shared-slice-read-first c = search needs
 
--- src/lib.rt:23:17
 cast-first : tie.Need-cast-first
 cast-first c = omega (arith, c .shared-slice-known .given (c .before .args .at))
 
--- src/lib.rt:24:20
 add-second : tie.Need-add-second
 add-second c = search needs
 
--- src/lib.rt:24:18
 shared-slice-read-second : tie.Need-shared-slice-read-second
 shared-slice-read-second c = search needs
 
--- src/lib.rt:24:18
 cast-second : tie.Need-cast-second
 cast-second c = omega (arith, c .shared-slice-known2 .given (c .before .before .args .at + 1))
 
--- src/lib.rt:25:19
 add-third : tie.Need-add-third
 add-third c = search needs
 
--- src/lib.rt:25:17
 shared-slice-read-third : tie.Need-shared-slice-read-third
 shared-slice-read-third c = search needs
 
--- src/lib.rt:25:17
 cast-third : tie.Need-cast-third
 cast-third c = omega (arith, c .shared-slice-known3 .given (c .before .before .before .args .at + 2))
 
--- src/lib.rt:26:20
 add-fourth : tie.Need-add-fourth
 add-fourth c = search needs
 
--- src/lib.rt:26:18
 shared-slice-read-fourth : tie.Need-shared-slice-read-fourth
 shared-slice-read-fourth c = search needs
 
--- src/lib.rt:26:18
 cast-fourth : tie.Need-cast-fourth
 cast-fourth c = omega (arith, c .shared-slice-known4 .given (c .before .before .before .before .args .at + 3))
 
--- src/lib.rt:27:5
 mul-result : tie.Need-mul-result
-mul-result c = let at = c .before .before .before .before .args .at in let byte = c .shared-slice-known4 .given in omega (arith, byte at)
+mul-result c =
+    let at = c .before .before .before .before .args .at in
+    let byte = c .shared-slice-known4 .given in
+    omega (arith, byte at)
 
--- src/lib.rt:27:25
 mul-result-2 : tie.Need-mul-result-2
-mul-result-2 c = let at = c .before .before .before .before .args .at in let byte = c .shared-slice-known4 .given in omega (arith, byte (at + 1))
+mul-result-2 c =
+    let at = c .before .before .before .before .args .at in
+    let byte = c .shared-slice-known4 .given in
+    omega (arith, byte (at + 1))
 
--- src/lib.rt:27:43
 mul-result-3 : tie.Need-mul-result-3
-mul-result-3 c = let at = c .before .before .before .before .args .at in let byte = c .shared-slice-known4 .given in omega (arith, byte (at + 2))
+mul-result-3 c =
+    let at = c .before .before .before .before .args .at in
+    let byte = c .shared-slice-known4 .given in
+    omega (arith, byte (at + 2))
 
--- src/lib.rt:27:43
 add-result : tie.Need-add-result
-add-result c = let at = c .before .before .before .before .args .at in let byte = c .shared-slice-known4 .given in omega (arith, byte (at + 2), byte (at + 3))
+add-result c =
+    let at = c .before .before .before .before .args .at in
+    let byte = c .shared-slice-known4 .given in
+    omega (arith, byte (at + 2), byte (at + 3))
 
--- src/lib.rt:27:25
 add-result-2 : tie.Need-add-result-2
-add-result-2 c = let at = c .before .before .before .before .args .at in let byte = c .shared-slice-known4 .given in omega (arith, byte (at + 1), byte (at + 2), byte (at + 3))
+add-result-2 c =
+    let at = c .before .before .before .before .args .at in
+    let byte = c .shared-slice-known4 .given in
+    omega (arith, byte (at + 1), byte (at + 2), byte (at + 3))
 
--- src/lib.rt:27:5
 add-result-3 : tie.Need-add-result-3
-add-result-3 c = let at = c .before .before .before .before .args .at in let byte = c .shared-slice-known4 .given in omega (arith, byte at, byte (at + 1), byte (at + 2), byte (at + 3))
+add-result-3 c =
+    let at = c .before .before .before .before .args .at in
+    let byte = c .shared-slice-known4 .given in
+    omega (arith, byte at, byte (at + 1), byte (at + 2), byte (at + 3))
 
--- src/lib.rt:19:1
 returns : tie.Need-returns
 returns c = sym (number-four _ _)
 

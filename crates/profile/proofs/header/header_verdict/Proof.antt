@@ -1,3 +1,5 @@
+-- `profile::header::header_verdict` meets its contract: the tests that led to a return say which check refuses first.
+-- Assumes nothing.
 use borrow.Author.Needs.{needs}
 use Rattle.model.specs.Profile.{headerVerdict}
 use borrow.Author.Tests.{lt-ltb, le-ltb}
@@ -7,65 +9,76 @@ use denote.Ref.{now}
 use native.Mathlib.Omega.{arith}
 use Rattle.profile.proofs.header.header_verdict.Statement.{statement}
 use Rattle.profile.proofs.header.header_verdict.Tie as tie
-use Rattle.profile.proofs.header.header_verdict.Reads as reads
-use Rattle.profile.proofs.header.header_verdict.Lts as lts
-use Rattle.profile.proofs.header.counts_wrong.Reads as counts-wrong-reads
-use Rattle.profile.proofs.header.header_wrong.Reads as header-wrong-reads
-use Rattle.profile.proofs.header.length_wrong.Reads as length-wrong-reads
-use Rattle.profile.proofs.verdict.refuse.Reads as refuse-reads
 
--- src/header.rt:90:9
 refuse-requires : tie.Need-refuse-requires
 refuse-requires c κs = search needs
 
--- src/header.rt:90:9
 returns : tie.Need-returns
 unfolding headerVerdict
-returns c = let s = now (c .before .before .before .args .s) in c .refuse .ensures ∙ sym (rw (lt-ltb (length s) 12 (omega arith)))
+returns c =
+    let s = now (c .before .before .before .args .s) in
+    c .refuse .ensures ∙ sym (rw (lt-ltb (length s) 12 (omega arith)))
 
--- src/header.rt:92:8
 header-wrong-requires : tie.Need-header-wrong-requires
 header-wrong-requires c κs = search needs
 
--- src/header.rt:93:9
 refuse-requires-2 : tie.Need-refuse-requires-2
 refuse-requires-2 c κs = search needs
 
--- src/header.rt:93:9
 returns-2 : tie.Need-returns-2
 unfolding headerVerdict
-returns-2 c = let s = now (c .before .before .before .before .before .args .s) in c .refuse2 .ensures ∙ sym (rw (le-ltb (length s) 12 (omega arith), sym (c .before .before .header-wrong .ensures) ∙ c .before .if2 .taken))
+returns-2 c =
+    let s = now (c .before .before .before .before .before .args .s) in
+    c .refuse2 .ensures ∙ sym (rw (le-ltb (length s) 12 (omega arith), sym (c .before .before .header-wrong .ensures) ∙ c .before .if2 .taken))
 
--- src/header.rt:95:8
 counts-wrong-requires : tie.Need-counts-wrong-requires
 counts-wrong-requires c κs = search needs
 
--- src/header.rt:96:9
 refuse-requires-3 : tie.Need-refuse-requires-3
 refuse-requires-3 c κs = search needs
 
--- src/header.rt:96:9
 returns-3 : tie.Need-returns-3
 unfolding headerVerdict
-returns-3 c = let s = now (c .before .before .before .before .before .before .before .args .s) in c .refuse3 .ensures ∙ sym (rw (le-ltb (length s) 12 (omega arith), sym (c .before .before .before .before .header-wrong .ensures) ∙ c .before .before .before .if2 .left, sym (c .before .before .counts-wrong .ensures) ∙ c .before .if3 .taken))
+returns-3 c =
+    let s = now (c .before .before .before .before .before .before .before .args .s) in
+    c .refuse3 .ensures
+    ∙ sym
+    (rw (
+      le-ltb (length s) 12 (omega arith),
+      sym (c .before .before .before .before .header-wrong .ensures) ∙ c .before .before .before .if2 .left,
+      sym (c .before .before .counts-wrong .ensures) ∙ c .before .if3 .taken,
+    ))
 
--- src/header.rt:98:8
 length-wrong-requires : tie.Need-length-wrong-requires
 length-wrong-requires c κs = search needs
 
--- src/header.rt:99:9
 refuse-requires-4 : tie.Need-refuse-requires-4
 refuse-requires-4 c κs = search needs
 
--- src/header.rt:99:9
 returns-4 : tie.Need-returns-4
 unfolding headerVerdict
-returns-4 c = let s = now (c .before .before .before .before .before .before .before .before .before .args .s) in c .refuse4 .ensures ∙ sym (rw (le-ltb (length s) 12 (omega arith), sym (c .before .before .before .before .before .before .header-wrong .ensures) ∙ c .before .before .before .before .before .if2 .left, sym (c .before .before .before .before .counts-wrong .ensures) ∙ c .before .before .before .if3 .left, sym (c .before .before .length-wrong .ensures) ∙ c .before .if4 .taken))
+returns-4 c =
+    let s = now (c .before .before .before .before .before .before .before .before .before .args .s) in
+    c .refuse4 .ensures
+    ∙ sym
+    (rw (
+      le-ltb (length s) 12 (omega arith),
+      sym (c .before .before .before .before .before .before .header-wrong .ensures) ∙ c .before .before .before .before .before .if2 .left,
+      sym (c .before .before .before .before .counts-wrong .ensures) ∙ c .before .before .before .if3 .left,
+      sym (c .before .before .length-wrong .ensures) ∙ c .before .if4 .taken,
+    ))
 
--- src/header.rt:85:1
 returns-5 : tie.Need-returns-5
 unfolding headerVerdict
-returns-5 c = let s = now (c .before .before .before .before .before .before .before .before .args .s) in sym (rw (le-ltb (length s) 12 (omega arith), sym (c .before .before .before .before .before .header-wrong .ensures) ∙ c .before .before .before .before .if2 .left, sym (c .before .before .before .counts-wrong .ensures) ∙ c .before .before .if3 .left, sym (c .before .length-wrong .ensures) ∙ c .if4 .left))
+returns-5 c =
+    let s = now (c .before .before .before .before .before .before .before .before .args .s) in
+    sym
+    (rw (
+      le-ltb (length s) 12 (omega arith),
+      sym (c .before .before .before .before .before .header-wrong .ensures) ∙ c .before .before .before .before .if2 .left,
+      sym (c .before .before .before .counts-wrong .ensures) ∙ c .before .before .if3 .left,
+      sym (c .before .length-wrong .ensures) ∙ c .if4 .left,
+    ))
 
 pub header-verdict-spec : {M : Type 1} → statement M
 header-verdict-spec =

@@ -1,3 +1,5 @@
+-- `profile::header::length_wrong` meets its contract: a short record's size times a u16 fits.
+-- Assumes nothing.
 use borrow.Author.Needs.{needs}
 use Rattle.model.specs.Profile.{lengthWrong}
 use Prim.Native.Nat.{_≤_}
@@ -5,44 +7,35 @@ use native.Mathlib.Nat.{mul-le-mul}
 use native.Mathlib.Omega.{arith}
 use Rattle.profile.proofs.header.length_wrong.Statement.{statement}
 use Rattle.profile.proofs.header.length_wrong.Tie as tie
-use Rattle.profile.proofs.header.length_wrong.Reads as reads
-use Rattle.profile.proofs.header.length_wrong.Lts as lts
-use Rattle.profile.proofs.header.domain_count.Reads as domain-count-reads
-use Rattle.profile.proofs.header.hop_count.Reads as hop-count-reads
 
--- src/header.rt:80:19
 domain-count-requires : tie.Need-domain-count-requires
 domain-count-requires c κs = search needs
 
--- src/header.rt:80:19
 cast-domains : tie.Need-cast-domains
 cast-domains c = search needs
 
--- src/header.rt:81:16
 hop-count-requires : tie.Need-hop-count-requires
 hop-count-requires c κs = search needs
 
--- src/header.rt:81:16
 cast-hops : tie.Need-cast-hops
 cast-hops c = search needs
 
--- src/header.rt:82:21
 mul-result : tie.Need-mul-result
 mul-result c = search needs
 
--- src/header.rt:82:16
 add-result : tie.Need-add-result
 add-result c = search needs
 
--- src/header.rt:82:36
 mul-result-2 : tie.Need-mul-result-2
-mul-result-2 c = let few : c .before .hop-count .result ≤ 65535 = omega arith in omega (arith, mul-le-mul (c .before .before .before .before .pre .1 .small) few)
+mul-result-2 c =
+    let few : c .before .hop-count .result ≤ 65535 = omega arith in
+    omega (arith, mul-le-mul (c .before .before .before .before .pre .1 .small) few)
 
--- src/header.rt:82:16
 add-result-2 : tie.Need-add-result-2
-add-result-2 c = let few : c .before .hop-count .result ≤ 65535 = omega arith in omega (arith, mul-le-mul (c .before .before .before .before .pre .1 .small) few)
+add-result-2 c =
+    let few : c .before .hop-count .result ≤ 65535 = omega arith in
+    omega (arith, mul-le-mul (c .before .before .before .before .pre .1 .small) few)
 
--- src/header.rt:75:1
 returns : tie.Need-returns
 unfolding lengthWrong
 returns c = rw (c .before .before .domain-count .ensures, c .before .hop-count .ensures)

@@ -1,17 +1,15 @@
-use borrow.Author.Needs.{needs}
+-- `profile::order::record_below` meets its contract. The loop's invariant: the words passed are the same, so what is left decides. The measure is the number of words left.
+-- Assumes nothing.
 use native.Mathlib.Nat.{add-zero, add-assoc}
 use denote.Ref.{now}
 use Rattle.profile.proofs.Words.{word-less, word-greater, word-same, nothing-left}
 use Rattle.model.specs.Bytes.{part}
 use Rattle.model.specs.Lists.{below}
-use mathlib.Core.Path.{_≡_, refl, sym, ap₂, _∙_}
-use Prim.Native.Nat.{ℕ, _+_, _*_, _≤_, _-_}
+use mathlib.Core.Path.{_≡_, sym, ap₂, _∙_}
+use Prim.Native.Nat.{ℕ, _+_, _*_, _-_}
 use native.Mathlib.Omega.{arith}
 use Rattle.profile.proofs.order.record_below.Statement.{statement}
 use Rattle.profile.proofs.order.record_below.Tie as tie
-use Rattle.profile.proofs.order.record_below.Reads as reads
-use Rattle.profile.proofs.order.record_below.Lts as lts
-use Rattle.wire.proofs.u32_at.Reads as u32-at-reads
 
 abbrev Inv-loop : tie.InvT-loop
 Inv-loop s a b words at₀ left₀ at left =
@@ -21,53 +19,74 @@ Inv-loop s a b words at₀ left₀ at left =
 abbrev μ-loop : tie.MeasureT-loop
 μ-loop s a b words at₀ left₀ at left = left
 
--- src/order.rt:16:5
 loop-holds : tie.Need-loop-holds Inv-loop μ-loop
-loop-holds c = let a = c .before .args in (omega arith, ap₂ (λ (x y : ℕ). below (part (now (a .s)) x (4 * a .words)) (part (now (a .s)) y (4 * a .words))) (sym (add-zero (a .a))) (sym (add-zero (a .b))))
+loop-holds c =
+    let a = c .before .args in (
+      omega arith,
+      ap₂
+          (λ (x y : ℕ). below (part (now (a .s)) x (4 * a .words)) (part (now (a .s)) y (4 * a .words))) (sym (add-zero (a .a))) (sym (add-zero (a .b))),
+    )
 
--- src/order.rt:17:27
 add-u32-at : tie.Need-add-u32-at Inv-loop μ-loop
 add-u32-at c = omega arith
 
--- src/order.rt:17:13
 u32-at-requires : tie.Need-u32-at-requires Inv-loop μ-loop
 u32-at-requires c κs = omega arith
 
--- src/order.rt:18:27
 add-u32-at-2 : tie.Need-add-u32-at-2 Inv-loop μ-loop
 add-u32-at-2 c = omega arith
 
--- src/order.rt:18:13
 u32-at-requires-2 : tie.Need-u32-at-requires-2 Inv-loop μ-loop
 u32-at-requires-2 c κs = omega arith
 
--- src/order.rt:20:13
 returns : tie.Need-returns Inv-loop μ-loop
-returns c = let a = c .before .before .before .before .before .before .args in let l = c .before .before .before .before .loop in let byte = c .before .before .before .before .before .shared-slice-known .given in sym (l .inv .1 ∙ word-less (now (a .s)) (a .a + l .at) (a .b + l .at) (l .left) (λ (i : ℕ). byte i .fits) (omega arith) (omega arith) (omega arith) (omega arith))
+returns c =
+    let a = c .before .before .before .before .before .before .args in
+    let l = c .before .before .before .before .loop in
+    let byte = c .before .before .before .before .before .shared-slice-known .given in
+    sym
+    (l .inv .1
+    ∙ word-less (now (a .s)) (a .a + l .at) (a .b + l .at) (l .left) (λ (i : ℕ). byte i .fits) (omega arith) (omega arith) (omega arith)
+    (omega arith))
 
--- src/order.rt:23:13
 returns-2 : tie.Need-returns-2 Inv-loop μ-loop
-returns-2 c = let a = c .before .before .before .before .before .before .before .args in let l = c .before .before .before .before .before .loop in let byte = c .before .before .before .before .before .before .shared-slice-known .given in sym (l .inv .1 ∙ word-greater (now (a .s)) (a .a + l .at) (a .b + l .at) (l .left) (λ (i : ℕ). byte i .fits) (omega arith) (omega arith) (omega arith) (omega arith))
+returns-2 c =
+    let a = c .before .before .before .before .before .before .before .args in
+    let l = c .before .before .before .before .before .loop in
+    let byte = c .before .before .before .before .before .before .shared-slice-known .given in
+    sym
+    (l .inv .1
+    ∙ word-greater (now (a .s)) (a .a + l .at) (a .b + l .at) (l .left) (λ (i : ℕ). byte i .fits) (omega arith) (omega arith) (omega arith)
+    (omega arith))
 
--- src/order.rt:25:9
 add-at : tie.Need-add-at Inv-loop μ-loop
 add-at c = omega arith
 
--- src/order.rt:26:9
 sub-left : tie.Need-sub-left Inv-loop μ-loop
 sub-left c = omega arith
 
--- src/order.rt:16:5
 loop-less : tie.Need-loop-less Inv-loop μ-loop
 loop-less c = omega arith
 
--- src/order.rt:16:5
 loop-again : tie.Need-loop-again Inv-loop μ-loop
-loop-again c = let a = c .before .before .before .before .before .before .before .args in let l = c .before .before .before .before .before .loop in let byte = c .before .before .before .before .before .before .shared-slice-known .given in (omega arith, l .inv .1 ∙ word-same (now (a .s)) (a .a + l .at) (a .b + l .at) (l .left) (λ (i : ℕ). byte i .fits) (omega arith) (omega arith) (omega arith) (omega arith) (omega arith) ∙ ap₂ (λ (x y : ℕ). below (part (now (a .s)) x (4 * (l .left - 1))) (part (now (a .s)) y (4 * (l .left - 1)))) (add-assoc (a .a) (l .at) 4) (add-assoc (a .b) (l .at) 4))
+loop-again c =
+    let a = c .before .before .before .before .before .before .before .args in
+    let l = c .before .before .before .before .before .loop in
+    let byte = c .before .before .before .before .before .before .shared-slice-known .given in (
+      omega arith,
+      l .inv .1
+          ∙ word-same (now (a .s)) (a .a + l .at) (a .b + l .at) (l .left) (λ (i : ℕ). byte i .fits) (omega arith) (omega arith) (omega arith)
+          (omega arith) (omega arith)
+          ∙ ap₂
+          (λ (x y : ℕ). below (part (now (a .s)) x (4 * (l .left - 1))) (part (now (a .s)) y (4 * (l .left - 1)))) (add-assoc (a .a) (l .at) 4)
+          (add-assoc (a .b) (l .at) 4),
+    )
 
--- src/order.rt:10:1
 returns-3 : tie.Need-returns-3 Inv-loop μ-loop
-returns-3 c = let a = c .before .before .before .args in let l = c .before .loop in sym (l .inv .1 ∙ nothing-left (now (a .s)) (a .a + l .at) (a .b + l .at) (l .left) (omega arith))
+returns-3 c =
+    let a = c .before .before .before .args in
+    let l = c .before .loop in
+    sym (l .inv .1 ∙ nothing-left (now (a .s)) (a .a + l .at) (a .b + l .at) (l .left) (omega arith))
 
 pub record-below-spec : {M : Type 1} → statement M
 record-below-spec =

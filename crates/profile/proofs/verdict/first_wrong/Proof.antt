@@ -1,36 +1,28 @@
+-- `profile::verdict::first_wrong` meets its contract: the tests that led to a return say which check refuses first.
+-- Assumes nothing.
 use borrow.Author.Needs.{needs}
 use mathlib.Core.Path.{sym, _∙_}
 use Rattle.profile.proofs.verdict.first_wrong.Statement.{statement}
 use Rattle.profile.proofs.verdict.first_wrong.Tie as tie
-use Rattle.profile.proofs.verdict.first_wrong.Reads as reads
-use Rattle.profile.proofs.verdict.first_wrong.Lts as lts
-use Rattle.profile.proofs.verdict.refuse.Reads as refuse-reads
 
--- src/verdict.rt:20:9
 refuse-requires : tie.Need-refuse-requires
 refuse-requires c κs = search needs
 
--- src/verdict.rt:20:9
 returns : tie.Need-returns
 returns c = c .refuse .ensures ∙ sym (rw (c .before .if1 .taken))
 
--- src/verdict.rt:23:9
 refuse-requires-2 : tie.Need-refuse-requires-2
 refuse-requires-2 c κs = search needs
 
--- src/verdict.rt:23:9
 returns-2 : tie.Need-returns-2
 returns-2 c = c .refuse2 .ensures ∙ sym (rw (c .before .before .if1 .left, c .before .if2 .taken))
 
--- src/verdict.rt:26:9
 refuse-requires-3 : tie.Need-refuse-requires-3
 refuse-requires-3 c κs = search needs
 
--- src/verdict.rt:26:9
 returns-3 : tie.Need-returns-3
 returns-3 c = c .refuse3 .ensures ∙ sym (rw (c .before .before .before .if1 .left, c .before .before .if2 .left, c .before .if3 .taken))
 
--- src/verdict.rt:16:1
 returns-4 : tie.Need-returns-4
 returns-4 c = search needs
 
