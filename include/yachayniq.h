@@ -6,10 +6,12 @@
  * input is refused. The other numbers of an answer are stored in `numbers`, the
  * place first. On a refusal every stored number but the place is 0.
  *
- * An input list is a pointer and then its count of elements. A pointer is never
- * NULL, also where the count is 0, and what a call writes overlaps none of its
- * inputs. A call keeps nothing for the next one, so calls may run in several
- * threads at a time.
+ * An input list is a pointer and then its count of elements, and so is a
+ * buffer that is lent for a result. A pointer is never NULL, also where the
+ * count is 0, and what a call writes overlaps none of its inputs and nothing
+ * else it writes. A lent buffer keeps what lies past the result, and on a
+ * refusal all it held. A call keeps nothing for the next one, so calls may run
+ * in several threads at a time.
  */
 #ifndef YACHAYNIQ_H
 #define YACHAYNIQ_H
@@ -49,6 +51,93 @@ extern "C" {
  */
 uint32_t yq_check_profile(const uint8_t *profile, size_t profile_count,
                           uint32_t numbers[1]);
+
+/*
+ * Reads an include list (the body of an IRO, RFC 7897): the domains to cross,
+ * in order, and the node through which a domain is to be entered.
+ *
+ *   ingress  the domain that the list starts in, as an index into the profile's
+ *            domain records, from 0
+ *   include  the list's bytes; a list of none leaves the ingress domain alone
+ *
+ * The three lent buffers have an element for each domain of the sequence, so 16
+ * elements each are always enough; their counts may differ:
+ *
+ *   domains  the domain's index; domains[0] is the ingress domain
+ *   pinned   1 where the list has an entry constraint for the domain, else 0
+ *   pins     the node that the domain is to be entered through, as a number
+ *            (192.0.2.1 is 0xC0000201), else 0
+ *
+ * Returns the first of these, in the order in which the checks are made:
+ *
+ *    10 to 19  what yq_check_profile finds wrong with the profile
+ *    20  ingress not below the profile's domain count
+ *    22  list over 1,024 bytes
+ *  then the form of each subobject in turn
+ *    23  under 4 bytes left
+ *    24  type not 1 (IPv4), 5 or 32 (AS), 6 (OSPF area) or 7 (IS-IS area)
+ *    27  top bit (L) set
+ *    26  area length of type 7 not 1 to 13
+ *    25  length not the type's
+ *    23  length past the list's end
+ *    26  prefix length of type 1 not 32, or padding of type 7 not zero
+ *  then the meaning of each subobject in turn
+ *    28  no such domain in the profile
+ *    29  AS with no area after it, where several domains have that AS
+ *    30  a domain of the sequence that was left comes back
+ *    31  a seventeenth domain
+ *    32  an entry constraint while one waits for its domain
+ *  then
+ *    32  an entry constraint that still waits
+ *    34  a buffer has fewer elements than the sequence has domains
+ *  else
+ *     0  the sequence is in the buffers
+ *
+ * numbers[0]  place: from 10 to 19 as yq_check_profile stores it; from 23 to 32
+ *             the offset in the list of the subobject that is refused, of an AS
+ *             with its area that of the area; else 0
+ * numbers[1]  on 0 how many domains the sequence has, 1 to 16; else 0
+ */
+uint32_t yq_read_include(const uint8_t *profile, size_t profile_count,
+                         uint16_t ingress,
+                         const uint8_t *include, size_t include_count,
+                         uint16_t *domains, size_t domains_count,
+                         uint8_t *pinned, size_t pinned_count,
+                         uint32_t *pins, size_t pins_count,
+                         uint32_t numbers[2]);
+
+/*
+ * Writes a sequence of domains as an include list, which yq_read_include reads
+ * back as the same sequence when domains[0] is the ingress.
+ *
+ * The three input lists have an element for each domain, in order:
+ *
+ *   domains  the domain, as an index into the profile's domain records, from 0
+ *   pinned   1 where the domain has an entry constraint, else 0
+ *   pins     the node that the domain is to be entered through, as a number
+ *            (192.0.2.1 is 0xC0000201); not looked at where `pinned` is 0
+ *
+ * The list is written to the start of `out`. It has at most 568 bytes.
+ *
+ * Returns the first of these, in the order in which the checks are made:
+ *
+ *    10 to 19  what yq_check_profile finds wrong with the profile
+ *    35  not a sequence that can be written: no domain, or over 16; counts of
+ *        the three lists that differ; an index not below the profile's domain
+ *        count; a domain twice; a `pinned` over 1; an entry constraint on the
+ *        first domain
+ *    34  out has fewer bytes than the list
+ *     0  the list is in out
+ *
+ * numbers[0]  place: from 10 to 19 as yq_check_profile stores it; else 0
+ * numbers[1]  on 0 how many bytes the list has; else 0
+ */
+uint32_t yq_write_list(const uint8_t *profile, size_t profile_count,
+                       const uint16_t *domains, size_t domains_count,
+                       const uint8_t *pinned, size_t pinned_count,
+                       const uint32_t *pins, size_t pins_count,
+                       uint8_t *out, size_t out_count,
+                       uint32_t numbers[2]);
 
 #ifdef __cplusplus
 }

@@ -48,6 +48,37 @@ impl<const N: usize, Buffers> Answer<N, Buffers> {
     }
 }
 
+/// A buffer to lend, between two margins, so that a write outside it is noticed.
+#[derive(Clone, Debug, PartialEq, Eq)]
+pub struct Lent<T>(Vec<T>);
+
+const MARGIN: usize = 8;
+
+impl<T: Copy + PartialEq + From<u8>> Lent<T> {
+    pub fn new(contents: &[T]) -> Self {
+        let margin = [T::from(0x55); MARGIN];
+        Lent([&margin[..], contents, &margin].concat())
+    }
+
+    pub fn buffer(&mut self) -> &mut [T] {
+        let end = self.0.len() - MARGIN;
+        &mut self.0[MARGIN..end]
+    }
+
+    pub fn contents(&self) -> &[T] {
+        &self.0[MARGIN..self.0.len() - MARGIN]
+    }
+
+    /// Nothing differs from what it was `before`, margins included, but the
+    /// first `written` elements of the buffer.
+    pub fn kept_past(&self, written: usize, before: &Self) -> bool {
+        let past = MARGIN + written;
+        self.0.len() == before.0.len()
+            && self.0[..MARGIN] == before.0[..MARGIN]
+            && self.0[past..] == before.0[past..]
+    }
+}
+
 /// The answer that both programs give; `which` says how to make the case again
 /// if they differ.
 #[track_caller]
@@ -100,5 +131,28 @@ impl Counts {
     /// At how many different places a number came up.
     pub fn places(&self, number: u32) -> usize {
         self.0.get(&number).map_or(0, BTreeMap::len)
+    }
+}
+
+/// How often each kind of case came up, to hold a run to the kinds it is for.
+#[derive(Default)]
+pub struct Kinds(BTreeMap<String, usize>);
+
+impl Kinds {
+    pub fn add(&mut self, kind: impl Into<String>) {
+        *self.0.entry(kind.into()).or_default() += 1;
+    }
+
+    /// Prints the counts; each of the kinds `wanted` came up ten times or more.
+    #[track_caller]
+    pub fn cover(&self, run: &str, wanted: &[String]) {
+        println!("\n{run}");
+        for (kind, cases) in &self.0 {
+            println!("{cases:>8}  {kind}");
+        }
+        for kind in wanted {
+            let cases = self.0.get(kind).copied().unwrap_or(0);
+            assert!(cases >= 10, "{run}: {cases} cases of {kind}");
+        }
     }
 }

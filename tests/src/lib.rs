@@ -4,6 +4,7 @@
 //! leave.
 
 pub mod compare;
+pub mod lists;
 pub mod stack;
 
 /// Profiles written out by hand, shared with the reference's own tests.
@@ -12,10 +13,97 @@ pub mod by_hand;
 
 extern "C" {
     fn yq_check_profile(profile: *const u8, profile_count: usize, numbers: *mut u32) -> u32;
+
+    fn yq_read_include(
+        profile: *const u8,
+        profile_count: usize,
+        ingress: u16,
+        include: *const u8,
+        include_count: usize,
+        domains: *mut u16,
+        domains_count: usize,
+        pinned: *mut u8,
+        pinned_count: usize,
+        pins: *mut u32,
+        pins_count: usize,
+        numbers: *mut u32,
+    ) -> u32;
+
+    fn yq_write_list(
+        profile: *const u8,
+        profile_count: usize,
+        domains: *const u16,
+        domains_count: usize,
+        pinned: *const u8,
+        pinned_count: usize,
+        pins: *const u32,
+        pins_count: usize,
+        out: *mut u8,
+        out_count: usize,
+        numbers: *mut u32,
+    ) -> u32;
 }
 
 /// Checks a profile. `numbers`: place.
 pub fn check_profile(profile: &[u8], numbers: &mut [u32; 1]) -> u32 {
     // SAFETY: the call reads the slice's bytes and writes the array's number.
     unsafe { yq_check_profile(profile.as_ptr(), profile.len(), numbers.as_mut_ptr()) }
+}
+
+/// Reads an include list. `numbers`: place, how many domains.
+pub fn read_include(
+    profile: &[u8],
+    ingress: u16,
+    include: &[u8],
+    domains: &mut [u16],
+    pinned: &mut [u8],
+    pins: &mut [u32],
+    numbers: &mut [u32; 2],
+) -> u32 {
+    // SAFETY: the call reads the two lists' bytes and writes no further than
+    // the three buffers and the array's two numbers.
+    unsafe {
+        yq_read_include(
+            profile.as_ptr(),
+            profile.len(),
+            ingress,
+            include.as_ptr(),
+            include.len(),
+            domains.as_mut_ptr(),
+            domains.len(),
+            pinned.as_mut_ptr(),
+            pinned.len(),
+            pins.as_mut_ptr(),
+            pins.len(),
+            numbers.as_mut_ptr(),
+        )
+    }
+}
+
+/// Writes a sequence of domains. `numbers`: place, how many bytes.
+pub fn write_list(
+    profile: &[u8],
+    domains: &[u16],
+    pinned: &[u8],
+    pins: &[u32],
+    out: &mut [u8],
+    numbers: &mut [u32; 2],
+) -> u32 {
+    // SAFETY: the call reads the four lists and writes no further than the
+    // buffer and the array's two numbers.
+    unsafe {
+        yq_write_list(
+            profile.as_ptr(),
+            profile.len(),
+            domains.as_ptr(),
+            domains.len(),
+            pinned.as_ptr(),
+            pinned.len(),
+            pins.as_ptr(),
+            pins.len(),
+            out.as_mut_ptr(),
+            out.len(),
+            numbers.as_mut_ptr(),
+        )
+    }
 }

@@ -4,27 +4,19 @@ use Rattle.model.specs.Answers.{Numbers, numbersOfProfile}
 use mathlib.Core.Path.{sym, ap, _∙_}
 use Rattle.calculator.proofs.yq_check_profile.Statement.{statement}
 use Rattle.calculator.proofs.yq_check_profile.Tie as tie
-use Rattle.calculator.proofs.yq_check_profile.Reads as reads
-use Rattle.calculator.proofs.yq_check_profile.Lts as lts
-use Rattle.profile.proofs.check_profile.Reads as check-profile-reads
 
--- src/lib.rt:12:9
 check-profile-requires : tie.Need-check-profile-requires
 check-profile-requires c κs = search needs
 
--- src/lib.rt:15:13
 enum-told : tie.Need-enum-told
 enum-told c = search needs
 
--- src/lib.rt:18:32
 enum-known-answer : tie.Need-enum-known-answer
 enum-known-answer c = search needs
 
--- src/lib.rt:8:1
 returns : tie.Need-returns
 returns c = let e = sym (ap numbersOfProfile (c .before .enum-told .given .1)) ∙ c .before .before .before .check-profile .ensures in (ap (λ (n : Numbers). n .answer) e, ap (λ (n : Numbers). n .others) e)
 
--- src/lib.rt:8:1
 returns-2 : tie.Need-returns-2
 returns-2 c = let e = sym (ap numbersOfProfile (c .before .before .answer .given .1)) ∙ c .before .before .before .before .check-profile .ensures in (ap (λ (n : Numbers). n .answer) e, ap (λ (n : Numbers). n .others) e)
 

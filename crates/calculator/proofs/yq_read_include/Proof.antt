@@ -4,35 +4,25 @@ use Rattle.model.specs.Answers.{Numbers, numbersOfRead}
 use borrow.Author.Needs.{needs}
 use Rattle.calculator.proofs.yq_read_include.Statement.{statement}
 use Rattle.calculator.proofs.yq_read_include.Tie as tie
-use Rattle.calculator.proofs.yq_read_include.Reads as reads
-use Rattle.calculator.proofs.yq_read_include.Lts as lts
-use Rattle.domain_list.proofs.read.read_include.Reads as read-include-reads
 
--- src/lib.rt:41:9
 read-include-requires : tie.Need-read-include-requires
 read-include-requires c κs = search needs
 
--- src/lib.rt:43:28
 enum-known-answer : tie.Need-enum-known-answer
 enum-known-answer c = search needs
 
--- src/lib.rt:47:29
 enum-known-answer-2 : tie.Need-enum-known-answer-2
 enum-known-answer-2 c = search needs
 
--- src/lib.rt:29:1
 same-length : tie.Need-same-length
 same-length c = search needs
 
--- src/lib.rt:29:1
 same-length-2 : tie.Need-same-length-2
 same-length-2 c = search needs
 
--- src/lib.rt:29:1
 same-length-3 : tie.Need-same-length-3
 same-length-3 c = search needs
 
--- src/lib.rt:29:1
 returns : tie.Need-returns
 returns c =
     let is = c .before .before .before .before .before .before .before .before .before .before .read-include .ensures in
@@ -45,19 +35,15 @@ returns c =
       in-nodes = is .in-nodes;
     }
 
--- src/lib.rt:29:1
 same-length-4 : tie.Need-same-length-4
 same-length-4 c = search needs
 
--- src/lib.rt:29:1
 same-length-5 : tie.Need-same-length-5
 same-length-5 c = search needs
 
--- src/lib.rt:29:1
 same-length-6 : tie.Need-same-length-6
 same-length-6 c = search needs
 
--- src/lib.rt:29:1
 returns-2 : tie.Need-returns-2
 returns-2 c =
     let is = c .before .before .before .before .before .before .before .before .before .before .read-include .ensures in

@@ -4,27 +4,19 @@ use Rattle.model.specs.Answers.{Numbers, numbersOfWrite}
 use borrow.Author.Needs.{needs}
 use Rattle.calculator.proofs.yq_write_list.Statement.{statement}
 use Rattle.calculator.proofs.yq_write_list.Tie as tie
-use Rattle.calculator.proofs.yq_write_list.Reads as reads
-use Rattle.calculator.proofs.yq_write_list.Lts as lts
-use Rattle.list_writer.proofs.writer.write_list.Reads as write-list-reads
 
--- src/lib.rt:68:9
 write-list-requires : tie.Need-write-list-requires
 write-list-requires c κs = search needs
 
--- src/lib.rt:70:32
 enum-known-answer : tie.Need-enum-known-answer
 enum-known-answer c = search needs
 
--- src/lib.rt:74:30
 enum-known-answer-2 : tie.Need-enum-known-answer-2
 enum-known-answer-2 c = search needs
 
--- src/lib.rt:57:1
 same-length : tie.Need-same-length
 same-length c = search needs
 
--- src/lib.rt:57:1
 returns : tie.Need-returns
 returns c =
     let is = c .before .before .before .before .before .before .write-list .ensures in
@@ -35,11 +27,9 @@ returns c =
       in-out = is .buffer;
     }
 
--- src/lib.rt:57:1
 same-length-2 : tie.Need-same-length-2
 same-length-2 c = search needs
 
--- src/lib.rt:57:1
 returns-2 : tie.Need-returns-2
 returns-2 c =
     let is = c .before .before .before .before .before .before .write-list .ensures in

@@ -4,28 +4,20 @@ use Rattle.model.specs.Calls.{profileNumbers, checkProfile}
 use borrow.Author.Needs.{needs}
 use Rattle.profile.proofs.check_profile.Statement.{statement}
 use Rattle.profile.proofs.check_profile.Tie as tie
-use Rattle.profile.proofs.check_profile.Reads as reads
-use Rattle.profile.proofs.check_profile.Lts as lts
-use Rattle.profile.proofs.verdict_on.Reads as verdict-on-reads
 
--- src/lib.rt:71:9
 verdict-on-requires : tie.Need-verdict-on-requires
 verdict-on-requires c κs = search needs
 
--- src/lib.rt:73:26
 enum-told : tie.Need-enum-told
 enum-told c = search needs
 
--- src/lib.rt:74:25
 enum-known-v : tie.Need-enum-known-v
 enum-known-v c = search needs
 
--- src/lib.rt:68:1
 returns : tie.Need-returns
 unfolding checkProfile
 returns c = sym (ap profileNumbers (sym (c .before .before .verdict-on .ensures) ∙ c .enum-told .given .1))
 
--- src/lib.rt:68:1
 returns-2 : tie.Need-returns-2
 unfolding checkProfile
 returns-2 c = sym (ap profileNumbers (sym (c .before .before .before .verdict-on .ensures) ∙ c .before .v .given .1))

@@ -5,20 +5,13 @@ use Rattle.model.specs.Profile.{Layout, profileVerdict}
 use borrow.Author.Needs.{needs}
 use Rattle.profile.proofs.verdict_on.Statement.{statement}
 use Rattle.profile.proofs.verdict_on.Tie as tie
-use Rattle.profile.proofs.verdict_on.Reads as reads
-use Rattle.profile.proofs.verdict_on.Lts as lts
-use Rattle.profile.proofs.layout.first_version.Reads as first-version-reads
-use Rattle.profile.proofs.profile_verdict.Reads as profile-verdict-reads
 
--- src/lib.rt:64:30
 first-version-requires : tie.Need-first-version-requires
 first-version-requires c κs = search needs
 
--- src/lib.rt:64:5
 profile-verdict-requires : tie.Need-profile-verdict-requires
 profile-verdict-requires c κs = rw (c .first-version .ensures) (record { fields = omega arith; cost = omega arith; small = omega arith })
 
--- src/lib.rt:61:1
 returns : tie.Need-returns
 returns c = c .profile-verdict .ensures ∙ ap (λ (L : Layout). profileVerdict L (c .before .before .before .args .profile .now)) (c .before .first-version .ensures)
 

@@ -6,22 +6,15 @@ use Rattle.domain_list.proofs.Areas.{other-kind, other-length, by-bytes
 use borrow.Author.Needs.{needs}
 use Rattle.domain_list.proofs.area.has_area.Statement.{statement}
 use Rattle.domain_list.proofs.area.has_area.Tie as tie
-use Rattle.domain_list.proofs.area.has_area.Reads as reads
-use Rattle.domain_list.proofs.area.has_area.Lts as lts
-use Rattle.domain_list.proofs.area.same_bytes.Reads as same-bytes-reads
-use Rattle.domain_list.proofs.subobject.wide.Reads as wide-reads
 
--- src/area.rt:37:9
 returns : tie.Need-returns
 returns c =
     let a = c .before .before .before .args in
     sym (other-kind (a .d) (a .list .now) (a .kind) (a .start) (a .count) (c .if1 .taken))
 
--- src/area.rt:39:8
 wide-requires : tie.Need-wide-requires
 wide-requires c κs = search needs
 
--- src/area.rt:40:9
 returns-2 : tie.Need-returns-2
 returns-2 c =
     let a = c .before .before .before .before .before .args in
@@ -31,11 +24,9 @@ returns-2 c =
     (other-length (a .d) (a .list .now) (a .kind) (a .start) (a .count) (c .before .before .if1 .left) (omega arith) (omega arith)
     (λ e. c .if2 .taken (w ∙ e)))
 
--- src/area.rt:43:5
 same-bytes-requires : tie.Need-same-bytes-requires
 same-bytes-requires c κs = search needs
 
--- src/area.rt:32:1
 returns-3 : tie.Need-returns-3
 returns-3 c =
     let a = c .before .before .before .before .before .before .before .args in

@@ -10,8 +10,6 @@ use Rattle.model.specs.Lists.{same}
 use Rattle.domain_list.proofs.Areas.{sameFrom, same-end, same-whole, same-hit, same-more}
 use Rattle.domain_list.proofs.area.same_bytes.Statement.{statement}
 use Rattle.domain_list.proofs.area.same_bytes.Tie as tie
-use Rattle.domain_list.proofs.area.same_bytes.Reads as reads
-use Rattle.domain_list.proofs.area.same_bytes.Lts as lts
 
 abbrev Inv-loop : tie.InvT-loop
 Inv-loop list start count area i₀ i = (i ≤ count) × (length area ≡ 13) × (sameFrom area list start count i ≡ same (take count area) (part list start count))
@@ -19,25 +17,20 @@ Inv-loop list start count area i₀ i = (i ≤ count) × (length area ≡ 13) ×
 abbrev μ-loop : tie.MeasureT-loop
 μ-loop list start count area i₀ i = count - i
 
--- src/area.rt:16:5
 loop-holds : tie.Need-loop-holds Inv-loop μ-loop
 loop-holds c =
     let a = c .args in
     (omega arith, search needs, same-whole (a .t1) (a .list .now) (a .start) (a .count))
 
--- src/area.rt:17:12
 array-read-if1 : tie.Need-array-read-if1 Inv-loop μ-loop
 array-read-if1 c = search needs
 
--- src/area.rt:17:28
 add-if1 : tie.Need-add-if1 Inv-loop μ-loop
 add-if1 c = search needs
 
--- src/area.rt:17:23
 shared-slice-read-if1 : tie.Need-shared-slice-read-if1 Inv-loop μ-loop
 shared-slice-read-if1 c = search needs
 
--- src/area.rt:18:13
 returns : tie.Need-returns Inv-loop μ-loop
 returns c =
     let a = c .before .before .before .before .args in
@@ -45,15 +38,12 @@ returns c =
     sym (same-hit (a .t1) (a .list .now) (a .start) (a .count) (l .i) (c .before .before .loop-test .taken) (omega arith) (omega arith) (c .if1 .taken))
     ∙ l .inv .2
 
--- src/area.rt:20:9
 add-i : tie.Need-add-i Inv-loop μ-loop
 add-i c = search needs
 
--- src/area.rt:16:5
 loop-less : tie.Need-loop-less Inv-loop μ-loop
 loop-less c = search needs
 
--- src/area.rt:16:5
 loop-again : tie.Need-loop-again Inv-loop μ-loop
 loop-again c =
     let a = c .before .before .before .before .args in
@@ -65,7 +55,6 @@ loop-again c =
           ∙ l .inv .2),
     )
 
--- src/area.rt:11:1
 returns-2 : tie.Need-returns-2 Inv-loop μ-loop
 returns-2 c =
     let a = c .before .before .args in

@@ -11,10 +11,6 @@ use Rattle.laws.proofs.Walk.{formLeft, subobjectsLeft, form-whole, any-start, a
 use Rattle.domain_list.proofs.Exclusions.{someNamed, readable-here, item-here, left-next, name-hit, name-more}
 use Rattle.domain_list.proofs.exclusion.excludes_domain.Statement.{statement}
 use Rattle.domain_list.proofs.exclusion.excludes_domain.Tie as tie
-use Rattle.domain_list.proofs.exclusion.excludes_domain.Reads as reads
-use Rattle.domain_list.proofs.exclusion.excludes_domain.Lts as lts
-use Rattle.domain_list.proofs.exclusion.takes_domain.Reads as takes-domain-reads
-use Rattle.domain_list.proofs.subobject.item_at.Reads as item-at-reads
 
 abbrev Inv-loop : tie.InvT-loop
 Inv-loop list d at₀ at = (at ≤ length list) × (formLeft Exclude list at ≡ Pass) × (someNamed (takesDomain d) (subobjectsLeft list at) ≡ excludedDomain (subobjects list) d)
@@ -22,21 +18,18 @@ Inv-loop list d at₀ at = (at ≤ length list) × (formLeft Exclude list at ≡
 abbrev μ-loop : tie.MeasureT-loop
 μ-loop list d at₀ at = length list - at
 
--- src/exclusion.rt:65:5
 loop-holds : tie.Need-loop-holds Inv-loop μ-loop
 unfolding excludedDomain
 loop-holds c =
     let a = c .before .args in
     (omega arith, form-whole Exclude (a .list .now) ∙ c .before .pre .0, any-start (λ (x : Subobject). takesDomain (a .d) (x .names)) (a .list .now))
 
--- src/exclusion.rt:66:13
 item-at-requires : tie.Need-item-at-requires Inv-loop μ-loop
 item-at-requires c κs =
     let a = c .before .before .before .args in
     let l = c .before .loop in
     readable-here Exclude (a .list .now) (l .at) (c .loop-test .taken) (l .inv .1)
 
--- src/exclusion.rt:68:12
 takes-domain-requires : tie.Need-takes-domain-requires Inv-loop μ-loop
 takes-domain-requires c κs =
     let a = c .before .before .before .before .args in
@@ -44,7 +37,6 @@ takes-domain-requires c κs =
     let i = c .item-at in
     ((item-here Exclude (a .list .now) (l .at) (c .before .loop-test .taken) (l .inv .1) (i .result) (i .ensures)) .area, c .before .before .before .before .pre .1)
 
--- src/exclusion.rt:69:13
 returns : tie.Need-returns Inv-loop μ-loop
 returns c =
     let a = c .before .before .before .before .before .before .args in
@@ -55,7 +47,6 @@ returns c =
     (sym (c .before .takes-domain .ensures) ∙ c .if1 .taken))
     ∙ l .inv .2
 
--- src/exclusion.rt:65:5
 loop-less : tie.Need-loop-less Inv-loop μ-loop
 loop-less c =
     let a = c .before .before .before .before .before .before .args in
@@ -64,7 +55,6 @@ loop-less c =
     let is = item-here Exclude (a .list .now) (l .at) (c .before .before .before .loop-test .taken) (l .inv .1) (i .result) (i .ensures) in
     omega (arith, is .further, is .inside)
 
--- src/exclusion.rt:65:5
 loop-again : tie.Need-loop-again Inv-loop μ-loop
 loop-again c =
     let a = c .before .before .before .before .before .before .args in
@@ -77,7 +67,6 @@ loop-again c =
           ∙ l .inv .2,
     )
 
--- src/exclusion.rt:60:1
 returns-2 : tie.Need-returns-2 Inv-loop μ-loop
 returns-2 c =
     let a = c .before .before .before .args in

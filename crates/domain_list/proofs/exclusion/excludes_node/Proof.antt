@@ -12,10 +12,6 @@ use Rattle.laws.proofs.Walk.{formLeft, subobjectsLeft, form-whole, any-start, a
 use Rattle.domain_list.proofs.Exclusions.{someNamed, readable-here, item-here, left-next, name-hit, name-more}
 use Rattle.domain_list.proofs.exclusion.excludes_node.Statement.{statement}
 use Rattle.domain_list.proofs.exclusion.excludes_node.Tie as tie
-use Rattle.domain_list.proofs.exclusion.excludes_node.Reads as reads
-use Rattle.domain_list.proofs.exclusion.excludes_node.Lts as lts
-use Rattle.domain_list.proofs.exclusion.takes_node.Reads as takes-node-reads
-use Rattle.domain_list.proofs.subobject.item_at.Reads as item-at-reads
 
 abbrev Inv-loop : tie.InvT-loop
 Inv-loop list node at₀ at = (at ≤ length list) × (formLeft Exclude list at ≡ Pass) × (someNamed (takesNode node) (subobjectsLeft list at) ≡ excludedNode (subobjects list) node)
@@ -23,25 +19,21 @@ Inv-loop list node at₀ at = (at ≤ length list) × (formLeft Exclude list at 
 abbrev μ-loop : tie.MeasureT-loop
 μ-loop list node at₀ at = length list - at
 
--- src/exclusion.rt:81:5
 loop-holds : tie.Need-loop-holds Inv-loop μ-loop
 unfolding excludedNode
 loop-holds c =
     let a = c .before .args in
     (omega arith, form-whole Exclude (a .list .now) ∙ c .before .pre, any-start (λ (x : Subobject). takesNode (a .node) (x .names)) (a .list .now))
 
--- src/exclusion.rt:82:13
 item-at-requires : tie.Need-item-at-requires Inv-loop μ-loop
 item-at-requires c κs =
     let a = c .before .before .before .args in
     let l = c .before .loop in
     readable-here Exclude (a .list .now) (l .at) (c .loop-test .taken) (l .inv .1)
 
--- src/exclusion.rt:84:12
 takes-node-requires : tie.Need-takes-node-requires Inv-loop μ-loop
 takes-node-requires c κs = search needs
 
--- src/exclusion.rt:85:13
 returns : tie.Need-returns Inv-loop μ-loop
 returns c =
     let a = c .before .before .before .before .before .before .args in
@@ -52,7 +44,6 @@ returns c =
     (sym (c .before .takes-node .ensures (a .list .now)) ∙ c .if1 .taken))
     ∙ l .inv .2
 
--- src/exclusion.rt:81:5
 loop-less : tie.Need-loop-less Inv-loop μ-loop
 loop-less c =
     let a = c .before .before .before .before .before .before .args in
@@ -61,7 +52,6 @@ loop-less c =
     let is = item-here Exclude (a .list .now) (l .at) (c .before .before .before .loop-test .taken) (l .inv .1) (i .result) (i .ensures) in
     omega (arith, is .further, is .inside)
 
--- src/exclusion.rt:81:5
 loop-again : tie.Need-loop-again Inv-loop μ-loop
 loop-again c =
     let a = c .before .before .before .before .before .before .args in
@@ -74,7 +64,6 @@ loop-again c =
           ∙ l .inv .2,
     )
 
--- src/exclusion.rt:76:1
 returns-2 : tie.Need-returns-2 Inv-loop μ-loop
 returns-2 c =
     let a = c .before .before .before .args in

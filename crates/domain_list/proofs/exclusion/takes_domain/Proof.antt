@@ -6,40 +6,30 @@ use Rattle.domain_list.specs.Items.{namedOf, AreaInside}
 use borrow.Author.Needs.{needs}
 use Rattle.domain_list.proofs.exclusion.takes_domain.Statement.{statement}
 use Rattle.domain_list.proofs.exclusion.takes_domain.Tie as tie
-use Rattle.domain_list.proofs.exclusion.takes_domain.Reads as reads
-use Rattle.domain_list.proofs.exclusion.takes_domain.Lts as lts
-use Rattle.domain_list.proofs.area.has_area.Reads as has-area-reads
 
--- src/exclusion.rt:54:50
 enum-told : tie.Need-enum-told
 enum-told c = search needs
 
--- src/exclusion.rt:55:25
 enum-known-named : tie.Need-enum-known-named
 enum-known-named c = search needs
 
--- src/exclusion.rt:56:23
 enum-known-named-2 : tie.Need-enum-known-named-2
 enum-known-named-2 c = search needs
 
--- src/exclusion.rt:56:47
 has-area-requires : tie.Need-has-area-requires
 has-area-requires c κs =
     let a = c .before .before .before .before .args in
     let pre = c .before .before .before .before .pre in
     (subst (AreaInside (a .list .now)) (c .before .named2 .given .1) (pre .0), pre .1)
 
--- src/exclusion.rt:49:1
 returns : tie.Need-returns
 returns c = search needs
 
--- src/exclusion.rt:49:1
 returns-2 : tie.Need-returns-2
 returns-2 c =
     let a = c .before .before .before .before .before .args in
     sym (ap (λ (n : Named). takesDomain (a .d) (namedOf (a .list .now) n)) (c .before .before .named .given .1))
 
--- src/exclusion.rt:49:1
 returns-3 : tie.Need-returns-3
 returns-3 c =
     let a = c .before .before .before .before .before .args in

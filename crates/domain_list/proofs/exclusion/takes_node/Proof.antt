@@ -6,39 +6,29 @@ use Rattle.domain_list.specs.Items.{namedOf}
 use borrow.Author.Needs.{needs}
 use Rattle.domain_list.proofs.exclusion.takes_node.Statement.{statement}
 use Rattle.domain_list.proofs.exclusion.takes_node.Tie as tie
-use Rattle.domain_list.proofs.exclusion.takes_node.Reads as reads
-use Rattle.domain_list.proofs.exclusion.takes_node.Lts as lts
-use Rattle.domain_list.proofs.exclusion.in_prefix.Reads as in-prefix-reads
 
--- src/exclusion.rt:38:25
 enum-known-named : tie.Need-enum-known-named
 enum-known-named c = search needs
 
--- src/exclusion.rt:38:44
 in-prefix-requires : tie.Need-in-prefix-requires
 in-prefix-requires c κs = search needs
 
--- src/exclusion.rt:39:37
 enum-told : tie.Need-enum-told
 enum-told c = search needs
 
--- src/exclusion.rt:44:14
 enum-told-2 : tie.Need-enum-told-2
 enum-told-2 c = search needs
 
--- src/exclusion.rt:34:1
 returns : tie.Need-returns
 returns c =
     let a = c .before .before .before .before .args in
     λ s. c .in-prefix .ensures ∙ sym (ap (λ (n : Named). takesNode (a .node) (namedOf s n)) (c .before .before .named .given .1))
 
--- src/exclusion.rt:34:1
 returns-2 : tie.Need-returns-2
 returns-2 c =
     let a = c .before .before .args in
     λ s. sym (ap (λ (n : Named). takesNode (a .node) (namedOf s n)) (c .enum-told .given .1))
 
--- src/exclusion.rt:34:1
 returns-3 : tie.Need-returns-3
 returns-3 c =
     let a = c .before .before .args in

@@ -6,28 +6,20 @@ use Rattle.domain_list.proofs.Hits.{area-other, area-here}
 use borrow.Author.Needs.{needs}
 use Rattle.domain_list.proofs.find.names.Statement.{statement}
 use Rattle.domain_list.proofs.find.names.Tie as tie
-use Rattle.domain_list.proofs.find.names.Reads as reads
-use Rattle.domain_list.proofs.find.names.Lts as lts
-use Rattle.domain_list.proofs.area.has_area.Reads as has-area-reads
-use Rattle.profile.proofs.domain.domain_at.Reads as domain-at-reads
 
--- src/find.rt:87:9
 domain-at-requires : tie.Need-domain-at-requires
 domain-at-requires c κs = search needs
 
--- src/find.rt:89:9
 returns : tie.Need-returns
 returns c =
     let a = c .before .before .before .before .before .args in
     area-other (a .profile .now) (a .asn) (a .i) _ _ (c .before .before .domain-at .ensures) (c .if1 .taken)
 
--- src/find.rt:91:5
 has-area-requires : tie.Need-has-area-requires
 has-area-requires c κs =
     let pre = c .before .before .before .before .before .pre in
     (pre .2, subst (λ (d : Domain). d .length ≤ 13) (sym (c .before .before .domain-at .ensures)) (pre .1))
 
--- src/find.rt:75:1
 returns-2 : tie.Need-returns-2
 returns-2 c =
     let a = c .before .before .before .before .before .before .args in

@@ -14,11 +14,6 @@ use Rattle.model.specs.Lists.{keep, countFrom}
 use Rattle.domain_list.proofs.Hits.{hits-none, next-hit, next-miss, hits-found, area-scanned}
 use Rattle.domain_list.proofs.find.of_area.Statement.{statement}
 use Rattle.domain_list.proofs.find.of_area.Tie as tie
-use Rattle.domain_list.proofs.find.of_area.Reads as reads
-use Rattle.domain_list.proofs.find.of_area.Lts as lts
-use Rattle.domain_list.proofs.find.names.Reads as names-reads
-use Rattle.domain_list.proofs.find.told.Reads as told-reads
-use Rattle.profile.proofs.header.domain_count.Reads as domain-count-reads
 
 abbrev areaOf : List ℕ → ℕ → ℕ → ℕ → Area
 areaOf list kind start count = record { kind = kind; bytes = part list start count }
@@ -29,21 +24,17 @@ Inv-loop profile asn list kind start count n hits₀ last₀ i₀ hits last i = 
 abbrev μ-loop : tie.MeasureT-loop
 μ-loop profile asn list kind start count n hits₀ last₀ i₀ hits last i = n - i
 
--- src/find.rt:60:13
 domain-count-requires : tie.Need-domain-count-requires Inv-loop μ-loop
 domain-count-requires c κs = (c .before .before .pre .0) .header
 
--- src/find.rt:60:13
 cast-n : tie.Need-cast-n Inv-loop μ-loop
 cast-n c = search needs
 
--- src/find.rt:64:5
 loop-holds : tie.Need-loop-holds Inv-loop μ-loop
 loop-holds c =
     let a = c .before .before .before .args in
     (omega arith, c .domain-count .ensures, omega arith, omega arith, hits-none (areaIs (a .profile .now) (a .asn) (areaOf (a .list .now) (a .kind) (a .start) (a .count))) 0)
 
--- src/find.rt:65:12
 names-requires : tie.Need-names-requires Inv-loop μ-loop
 names-requires c κs =
     let pre = c .before .before .before .before .before .pre in
@@ -51,27 +42,23 @@ names-requires c κs =
     let inv = c .before .loop .inv in
     (omega arith, pre .1 (c .before .loop .i) (omega arith), pre .2)
 
--- src/find.rt:66:13
 add-hits : tie.Need-add-hits Inv-loop μ-loop
 add-hits c =
     let few = (c .before .before .before .before .before .before .before .pre .0) .few in
     let inv = c .before .before .before .loop .inv in
     omega arith
 
--- src/find.rt:69:9
 add-i : tie.Need-add-i Inv-loop μ-loop
 add-i c =
     let few = (c .before .before .before .before .before .before .before .pre .0) .few in
     let inv = c .before .before .before .loop .inv in
     omega arith
 
--- src/find.rt:64:5
 loop-less : tie.Need-loop-less Inv-loop μ-loop
 loop-less c =
     let test = c .before .before .loop-test .taken in
     omega arith
 
--- src/find.rt:64:5
 loop-again : tie.Need-loop-again Inv-loop μ-loop
 loop-again c =
     let a = c .before .before .before .before .before .before .before .args in
@@ -104,13 +91,11 @@ loop-again c =
     ))
     (c .if1 .came)
 
--- src/find.rt:71:5
 told-requires : tie.Need-told-requires Inv-loop μ-loop
 told-requires c κs =
     let last = c .before .loop .inv .3 in
     omega arith
 
--- src/find.rt:56:1
 returns : tie.Need-returns Inv-loop μ-loop
 returns c =
     let a = c .before .before .before .before .before .before .args in

@@ -11,11 +11,6 @@ use Rattle.model.specs.Lists.{keep, countFrom}
 use Rattle.domain_list.proofs.Hits.{hits-none, next-hit, next-miss, hits-found, system-read, system-other, system-scanned}
 use Rattle.domain_list.proofs.find.of_system.Statement.{statement}
 use Rattle.domain_list.proofs.find.of_system.Tie as tie
-use Rattle.domain_list.proofs.find.of_system.Reads as reads
-use Rattle.domain_list.proofs.find.of_system.Lts as lts
-use Rattle.domain_list.proofs.find.told.Reads as told-reads
-use Rattle.profile.proofs.header.domain_count.Reads as domain-count-reads
-use Rattle.wire.proofs.u32_at.Reads as u32-at-reads
 
 abbrev Inv-loop : tie.InvT-loop
 Inv-loop profile asn n hits₀ last₀ i₀ hits last i = (i ≤ n) × (n ≡ domainCount profile) × (hits ≤ i) × (last ≤ 64) × Hits (systemIs profile asn) i hits last
@@ -23,20 +18,16 @@ Inv-loop profile asn n hits₀ last₀ i₀ hits last i = (i ≤ n) × (n ≡ do
 abbrev μ-loop : tie.MeasureT-loop
 μ-loop profile asn n hits₀ last₀ i₀ hits last i = n - i
 
--- src/find.rt:39:13
 domain-count-requires : tie.Need-domain-count-requires Inv-loop μ-loop
 domain-count-requires c κs = (c .before .pre) .header
 
--- src/find.rt:39:13
 cast-n : tie.Need-cast-n Inv-loop μ-loop
 cast-n c = search needs
 
--- src/find.rt:43:5
 loop-holds : tie.Need-loop-holds Inv-loop μ-loop
 loop-holds c =
     (omega arith, c .domain-count .ensures, omega arith, omega arith, hits-none (systemIs (c .before .before .args .profile .now) (c .before .before .args .asn)) 0)
 
--- src/find.rt:44:33
 mul-u32-at : tie.Need-mul-u32-at Inv-loop μ-loop
 mul-u32-at c =
     let few = (c .before .before .before .before .pre) .few in
@@ -44,7 +35,6 @@ mul-u32-at c =
     let inv = c .before .loop .inv in
     omega arith
 
--- src/find.rt:44:28
 add-u32-at : tie.Need-add-u32-at Inv-loop μ-loop
 add-u32-at c =
     let few = (c .before .before .before .before .pre) .few in
@@ -52,7 +42,6 @@ add-u32-at c =
     let inv = c .before .loop .inv in
     omega arith
 
--- src/find.rt:44:12
 u32-at-requires : tie.Need-u32-at-requires Inv-loop μ-loop
 u32-at-requires c κs =
     let few = (c .before .before .before .before .pre) .few in
@@ -60,7 +49,6 @@ u32-at-requires c κs =
     let inv = c .before .loop .inv in
     omega arith
 
--- src/find.rt:45:13
 add-hits : tie.Need-add-hits Inv-loop μ-loop
 add-hits c =
     let few = (c .before .before .before .before .before .before .pre) .few in
@@ -68,7 +56,6 @@ add-hits c =
     let inv = c .before .before .before .loop .inv in
     omega arith
 
--- src/find.rt:48:9
 add-i : tie.Need-add-i Inv-loop μ-loop
 add-i c =
     let few = (c .before .before .before .before .before .before .pre) .few in
@@ -76,13 +63,11 @@ add-i c =
     let inv = c .before .before .before .loop .inv in
     omega arith
 
--- src/find.rt:43:5
 loop-less : tie.Need-loop-less Inv-loop μ-loop
 loop-less c =
     let test = c .before .before .loop-test .taken in
     omega arith
 
--- src/find.rt:43:5
 loop-again : tie.Need-loop-again Inv-loop μ-loop
 loop-again c =
     let a = c .before .before .before .before .before .before .args in
@@ -115,13 +100,11 @@ loop-again c =
     ))
     (c .if1 .came)
 
--- src/find.rt:50:5
 told-requires : tie.Need-told-requires Inv-loop μ-loop
 told-requires c κs =
     let last = c .before .loop .inv .3 in
     omega arith
 
--- src/find.rt:35:1
 returns : tie.Need-returns Inv-loop μ-loop
 returns c =
     let a = c .before .before .before .before .before .args in

@@ -9,27 +9,21 @@ use Rattle.domain_list.specs.Found.{foundAs}
 use borrow.Author.Needs.{needs}
 use Rattle.domain_list.proofs.find.told.Statement.{statement}
 use Rattle.domain_list.proofs.find.told.Tie as tie
-use Rattle.domain_list.proofs.find.told.Reads as reads
-use Rattle.domain_list.proofs.find.told.Lts as lts
 
 more : (n last : ℕ) → (n ≡ 0 → ⊥) → (n ≡ 1 → ⊥) → Several ≡ foundAs n last
 more zero last d e = absurd (d refl)
 more (suc zero) last d e = absurd (e refl)
 more (suc (suc n)) last d e = refl
 
--- src/find.rt:24:9
 returns : tie.Need-returns
 returns c = search needs
 
--- src/find.rt:28:21
 cast-t4 : tie.Need-cast-t4
 cast-t4 c = search needs
 
--- src/find.rt:27:9
 returns-2 : tie.Need-returns-2
 returns-2 c = rw (c .if2 .taken) refl
 
--- src/find.rt:19:1
 returns-3 : tie.Need-returns-3
 returns-3 c = more _ _ (c .before .if1 .left) (c .if2 .left)
 

@@ -9,10 +9,6 @@ use Rattle.model.specs.Subobject.{formVerdict, subobjectVerdict}
 use Rattle.laws.proofs.Walk.{right-subobject, formLeft, form-whole, form-end, form-refused, form-next}
 use Rattle.domain_list.proofs.form.form.Statement.{statement}
 use Rattle.domain_list.proofs.form.form.Tie as tie
-use Rattle.domain_list.proofs.form.form.Reads as reads
-use Rattle.domain_list.proofs.form.form.Lts as lts
-use Rattle.domain_list.proofs.subobject.form_at.Reads as form-at-reads
-use Rattle.domain_list.proofs.subobject.wide.Reads as wide-reads
 
 abbrev Inv-loop : tie.InvT-loop
 Inv-loop kind list at₀ at = (at ≤ length list) × (formLeft kind list at ≡ formVerdict kind list)
@@ -24,19 +20,15 @@ abbrev μ-loop : tie.MeasureT-loop
 right : (c : tie.After-enum-told Inv-loop μ-loop) → subobjectVerdict (c .before .before .before .before .before .before .args .kind) (c .before .before .before .before .before .before .args .list .now) (c .before .before .before .before .loop .at) ≡ Pass
 right c = sym (c .before .before .form-at .ensures) ∙ c .enum-told .given .1
 
--- src/form.rt:16:5
 loop-holds : tie.Need-loop-holds Inv-loop μ-loop
 loop-holds c = let a = c .before .args in (omega arith, form-whole (a .kind) (a .list .now))
 
--- src/form.rt:17:13
 form-at-requires : tie.Need-form-at-requires Inv-loop μ-loop
 form-at-requires c κs = search needs
 
--- src/form.rt:18:32
 enum-known-verdict : tie.Need-enum-known-verdict Inv-loop μ-loop
 enum-known-verdict c = search needs
 
--- src/form.rt:19:13
 returns : tie.Need-returns Inv-loop μ-loop
 returns c =
     let a = c .before .before .before .before .before .before .before .args in
@@ -47,26 +39,21 @@ returns c =
 enum-told : tie.Need-enum-told Inv-loop μ-loop
 enum-told c = search needs
 
--- src/form.rt:21:25
 add-wide : tie.Need-add-wide Inv-loop μ-loop
 add-wide c = search needs
 
--- src/form.rt:21:20
 shared-slice-read-wide : tie.Need-shared-slice-read-wide Inv-loop μ-loop
 shared-slice-read-wide c =
     let a = c .before .before .before .before .before .before .before .args in
     let r = right-subobject (a .kind) (a .list .now) (c .before .before .before .before .before .loop .at) (right (c .before)) in
     omega (arith, r .head)
 
--- src/form.rt:21:15
 wide-requires : tie.Need-wide-requires Inv-loop μ-loop
 wide-requires c κs = search needs
 
--- src/form.rt:21:9
 add-at : tie.Need-add-at Inv-loop μ-loop
 add-at c = search needs
 
--- src/form.rt:16:5
 loop-less : tie.Need-loop-less Inv-loop μ-loop
 loop-less c =
     let a = c .before .before .before .before .before .before .before .before .args in
@@ -74,7 +61,6 @@ loop-less c =
     let w = c .wide .ensures .0 in
     omega (arith, r .whole, r .long)
 
--- src/form.rt:16:5
 loop-again : tie.Need-loop-again Inv-loop μ-loop
 loop-again c =
     let a = c .before .before .before .before .before .before .before .before .args in
@@ -88,7 +74,6 @@ loop-again c =
           ∙ l .inv .1,
     )
 
--- src/form.rt:11:1
 returns-2 : tie.Need-returns-2 Inv-loop μ-loop
 returns-2 c =
     let a = c .before .before .before .args in

@@ -3,22 +3,16 @@ use Rattle.domain_list.proofs.Includes.{area-6, area-or-not, area-end}
 use borrow.Author.Needs.{needs}
 use Rattle.domain_list.proofs.include.area_at.Statement.{statement}
 use Rattle.domain_list.proofs.include.area_at.Tie as tie
-use Rattle.domain_list.proofs.include.area_at.Reads as reads
-use Rattle.domain_list.proofs.include.area_at.Lts as lts
 
--- src/include.rt:67:9
 returns : tie.Need-returns
 returns c = area-end (c .before .args .list .now) (c .before .args .at) (c .if1 .taken)
 
--- src/include.rt:69:13
 shared-slice-read-t : tie.Need-shared-slice-read-t
 shared-slice-read-t c = search needs
 
--- src/include.rt:71:9
 returns-2 : tie.Need-returns-2
 returns-2 c = area-6 (c .before .before .before .args .list .now) (c .before .before .before .args .at) (c .before .before .if1 .left) (c .if2 .taken)
 
--- src/include.rt:63:1
 returns-3 : tie.Need-returns-3
 returns-3 c = area-or-not (c .before .before .before .args .list .now) (c .before .before .before .args .at) (c .before .before .if1 .left) (c .if2 .left)
 

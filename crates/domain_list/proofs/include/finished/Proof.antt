@@ -6,18 +6,13 @@ use Rattle.domain_list.specs.Reading.{waitingOf, stateOf}
 use borrow.Author.Needs.{needs}
 use Rattle.domain_list.proofs.include.finished.Statement.{statement}
 use Rattle.domain_list.proofs.include.finished.Tie as tie
-use Rattle.domain_list.proofs.include.finished.Reads as reads
-use Rattle.domain_list.proofs.include.finished.Lts as lts
 
--- src/include.rt:102:22
 enum-told : tie.Need-enum-told
 enum-told c = search needs
 
--- src/include.rt:105:25
 enum-known-waiting : tie.Need-enum-known-waiting
 enum-known-waiting c = search needs
 
--- src/include.rt:95:1
 returns : tie.Need-returns
 returns c =
     let a = c .before .before .args in
@@ -26,7 +21,6 @@ returns c =
       sound = c .before .before .pre;
     }
 
--- src/include.rt:95:1
 returns-2 : tie.Need-returns-2
 returns-2 c =
     let a = c .before .before .before .args in

@@ -10,59 +10,43 @@ use Rattle.domain_list.proofs.States.{named-found}
 use borrow.Author.Needs.{needs}
 use Rattle.domain_list.proofs.include.read_item.Statement.{statement}
 use Rattle.domain_list.proofs.include.read_item.Tie as tie
-use Rattle.domain_list.proofs.include.read_item.Reads as reads
-use Rattle.domain_list.proofs.include.read_item.Lts as lts
-use Rattle.domain_list.proofs.find.of_area.Reads as of-area-reads
-use Rattle.domain_list.proofs.include.read_system.Reads as read-system-reads
-use Rattle.domain_list.proofs.state.name_found.Reads as name-found-reads
-use Rattle.domain_list.proofs.state.wait_for.Reads as wait-for-reads
 
--- src/include.rt:53:25
 enum-known-named : tie.Need-enum-known-named
 enum-known-named c = search needs
 
--- src/include.rt:53:47
 wait-for-requires : tie.Need-wait-for-requires
 wait-for-requires c κs = search needs
 
--- src/include.rt:54:25
 enum-known-named-2 : tie.Need-enum-known-named-2
 enum-known-named-2 c = search needs
 
--- src/include.rt:54:34
 read-system-requires : tie.Need-read-system-requires
 read-system-requires c κs = search needs
 
--- src/include.rt:55:23
 enum-known-named-3 : tie.Need-enum-known-named-3
 enum-known-named-3 c = search needs
 
--- src/include.rt:56:17
 of-area-requires : tie.Need-of-area-requires
 of-area-requires c κs =
     let a = c .before .before .before .before .before .args in
     let pre = c .before .before .before .before .before .pre in
     (pre .3, pre .4, subst (AreaInside (a .list .now)) (c .before .named3 .given .1) (pre .2))
 
--- src/include.rt:57:13
 name-found-requires : tie.Need-name-found-requires
 name-found-requires c κs = search needs
 
--- src/include.rt:46:1
 returns : tie.Need-returns
 returns c =
     let a = c .before .before .before .before .before .before .args in
     subst (λ (x : Named). SteppedIs (c .wait-for .result) (M.readNamed (domains (a .profile .now)) (a .item .offset) (stateOf (a .st)) (a .follows) (namedOf (a .list .now) x))) (sym (c .before .before .named .given .1))
     (c .wait-for .ensures)
 
--- src/include.rt:46:1
 returns-2 : tie.Need-returns-2
 returns-2 c =
     let a = c .before .before .before .before .before .before .args in
     subst (λ (x : Named). SteppedIs (c .read-system .result) (M.readNamed (domains (a .profile .now)) (a .item .offset) (stateOf (a .st)) (a .follows) (namedOf (a .list .now) x))) (sym (c .before .before .named2 .given .1))
     (c .read-system .ensures)
 
--- src/include.rt:46:1
 returns-3 : tie.Need-returns-3
 returns-3 c =
     let a = c .before .before .before .before .before .before .before .args in

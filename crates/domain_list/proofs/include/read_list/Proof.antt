@@ -18,13 +18,6 @@ use Rattle.domain_list.proofs.FormLaws.{readable}
 use Rattle.domain_list.proofs.Includes.{read-here, read-passed, read-refused, read-end, read-start}
 use Rattle.domain_list.proofs.include.read_list.Statement.{statement}
 use Rattle.domain_list.proofs.include.read_list.Tie as tie
-use Rattle.domain_list.proofs.include.read_list.Reads as reads
-use Rattle.domain_list.proofs.include.read_list.Lts as lts
-use Rattle.domain_list.proofs.include.area_at.Reads as area-at-reads
-use Rattle.domain_list.proofs.include.finished.Reads as finished-reads
-use Rattle.domain_list.proofs.include.read_item.Reads as read-item-reads
-use Rattle.domain_list.proofs.include.start.Reads as start-reads
-use Rattle.domain_list.proofs.subobject.item_at.Reads as item-at-reads
 
 abbrev Inv-loop : tie.InvT-loop
 Inv-loop profile ingress list st₀ at₀ st at =
@@ -53,11 +46,9 @@ stepped c =
     ∙ read-here (domains (c .before .before .before .before .before .before .before .before .args .profile .now)) (c .before .before .before .before .before .before .before .before .args .list .now) (c .before .before .before .before .loop .at) (stateOf (c .before .before .before .before .loop .st)) (c .before .before .item-at .result) (c .before .area-at .result)
     (item-is (c .before .before)) (c .before .area-at .ensures)
 
--- src/include.rt:121:9
 start-requires : tie.Need-start-requires Inv-loop μ-loop
 start-requires c κs = (c .before .before .pre .0 .0, c .before .before .pre .0 .2)
 
--- src/include.rt:123:5
 loop-holds : tie.Need-loop-holds Inv-loop μ-loop
 loop-holds c =
     let a = c .before .before .before .args in (
@@ -67,15 +58,12 @@ loop-holds c =
       read-start (domains (a .profile .now)) (a .list .now) (a .ingress) (stateOf (c .start .result)) ((c .start .ensures) .means),
     )
 
--- src/include.rt:124:13
 item-at-requires : tie.Need-item-at-requires Inv-loop μ-loop
 item-at-requires c κs = readable Include (c .before .before .before .before .before .args .list .now) (c .before .loop .at) (here c)
 
--- src/include.rt:126:58
 area-at-requires : tie.Need-area-at-requires Inv-loop μ-loop
 area-at-requires c κs = tt
 
--- src/include.rt:126:13
 read-item-requires : tie.Need-read-item-requires Inv-loop μ-loop
 read-item-requires c κs =
     let pre = c .before .before .before .before .before .before .before .pre in
@@ -85,11 +73,9 @@ read-item-requires c κs =
     let short = pre .1 .0 in
     (c .before .before .before .loop .inv .1, omega arith, is .area, pre .0 .0, pre .0 .1)
 
--- src/include.rt:128:32
 enum-known-verdict : tie.Need-enum-known-verdict Inv-loop μ-loop
 enum-known-verdict c = search needs
 
--- src/include.rt:129:13
 returns : tie.Need-returns Inv-loop μ-loop
 returns c =
     let a = c .before .before .before .before .before .before .before .before .before .before .before .args in
@@ -106,7 +92,6 @@ returns c =
 enum-told : tie.Need-enum-told Inv-loop μ-loop
 enum-told c = search needs
 
--- src/include.rt:123:5
 loop-less : tie.Need-loop-less Inv-loop μ-loop
 loop-less c =
     let is = item-is (c .before .before .before .before .before) in
@@ -114,7 +99,6 @@ loop-less c =
     let inside = is .inside in
     omega arith
 
--- src/include.rt:123:5
 loop-again : tie.Need-loop-again Inv-loop μ-loop
 loop-again c =
     let a = c .before .before .before .before .before .before .before .before .before .before .before .args in
@@ -132,11 +116,9 @@ loop-again c =
           (sym (read-passed ds s (l .at) (stateOf (l .st)) (c .before .before .before .before .before .before .loop-test .taken) (l .inv .2) _ on) ∙ l .inv .3),
     )
 
--- src/include.rt:137:5
 finished-requires : tie.Need-finished-requires Inv-loop μ-loop
 finished-requires c κs = c .before .loop .inv .1
 
--- src/include.rt:116:1
 returns-2 : tie.Need-returns-2 Inv-loop μ-loop
 returns-2 c =
     let a = c .before .before .before .before .before .before .args in

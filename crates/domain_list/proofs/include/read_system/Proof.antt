@@ -7,31 +7,21 @@ use Rattle.domain_list.proofs.States.{stepped-on, named-found}
 use borrow.Author.Needs.{needs}
 use Rattle.domain_list.proofs.include.read_system.Statement.{statement}
 use Rattle.domain_list.proofs.include.read_system.Tie as tie
-use Rattle.domain_list.proofs.include.read_system.Reads as reads
-use Rattle.domain_list.proofs.include.read_system.Lts as lts
-use Rattle.domain_list.proofs.find.of_system.Reads as of-system-reads
-use Rattle.domain_list.proofs.state.name_found.Reads as name-found-reads
-use Rattle.domain_list.proofs.state.with_asn.Reads as with-asn-reads
 
--- src/include.rt:34:9
 with-asn-requires : tie.Need-with-asn-requires
 with-asn-requires c κs = search needs
 
--- src/include.rt:36:9
 returns : tie.Need-returns
 returns c =
     let a = c .before .before .before .args in
     stepped-on _ _ _ (c .before .with-asn .ensures) (ap (M.readSystem (domains (a .profile .now)) (a .at) (stateOf (a .st)) (a .asn)) (c .if1 .taken))
 
--- src/include.rt:41:9
 of-system-requires : tie.Need-of-system-requires
 of-system-requires c κs = search needs
 
--- src/include.rt:42:5
 name-found-requires : tie.Need-name-found-requires
 name-found-requires c κs = search needs
 
--- src/include.rt:30:1
 returns-2 : tie.Need-returns-2
 returns-2 c =
     let a = c .before .before .before .before .before .args in

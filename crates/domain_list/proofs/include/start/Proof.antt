@@ -3,27 +3,19 @@ use Rattle.domain_list.proofs.Includes.{started}
 use borrow.Author.Needs.{needs}
 use Rattle.domain_list.proofs.include.start.Statement.{statement}
 use Rattle.domain_list.proofs.include.start.Tie as tie
-use Rattle.domain_list.proofs.include.start.Reads as reads
-use Rattle.domain_list.proofs.include.start.Lts as lts
-use Rattle.wire.proofs.u32_at.Reads as u32-at-reads
 
--- src/include.rt:83:5
 array-write-domains : tie.Need-array-write-domains
 array-write-domains c = search needs
 
--- src/include.rt:85:35
 mul-u32-at : tie.Need-mul-u32-at
 mul-u32-at c = search needs
 
--- src/include.rt:85:30
 add-u32-at : tie.Need-add-u32-at
 add-u32-at c = search needs
 
--- src/include.rt:85:14
 u32-at-requires : tie.Need-u32-at-requires
 u32-at-requires c κs = search needs
 
--- src/include.rt:77:1
 returns : tie.Need-returns
 returns c =
     let a = c .before .before .args in

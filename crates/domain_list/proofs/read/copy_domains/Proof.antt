@@ -8,8 +8,6 @@ use Rattle.model.specs.Lists.{over}
 use Rattle.domain_list.proofs.Copies.{Copied, copied-none, copied-long, copied-more}
 use Rattle.domain_list.proofs.read.copy_domains.Statement.{statement}
 use Rattle.domain_list.proofs.read.copy_domains.Tie as tie
-use Rattle.domain_list.proofs.read.copy_domains.Reads as reads
-use Rattle.domain_list.proofs.read.copy_domains.Lts as lts
 
 abbrev Inv-loop : tie.InvT-loop
 Inv-loop n to₀ from i₀ to i = (i ≤ n) × Copied from to₀ to i
@@ -17,32 +15,27 @@ Inv-loop n to₀ from i₀ to i = (i ≤ n) × Copied from to₀ to i
 abbrev μ-loop : tie.MeasureT-loop
 μ-loop n to₀ from i₀ to i = n - i
 
--- src/read.rt:23:5
 loop-holds : tie.Need-loop-holds Inv-loop μ-loop
 loop-holds c = (omega arith, copied-none (c .args .t1) (c .args .to .now))
 
--- src/read.rt:24:17
 mul-to : tie.Need-mul-to Inv-loop μ-loop
 mul-to c =
     let n = c .before .before .pre .0 in
     let test = c .loop-test .taken in
     omega arith
 
--- src/read.rt:24:17
 array-read-to : tie.Need-array-read-to Inv-loop μ-loop
 array-read-to c =
     let n = c .before .before .pre .0 in
     let test = c .loop-test .taken in
     omega arith
 
--- src/read.rt:24:9
 mul-to-2 : tie.Need-mul-to-2 Inv-loop μ-loop
 mul-to-2 c =
     let n = c .before .before .pre .0 in
     let test = c .loop-test .taken in
     omega arith
 
--- src/read.rt:24:9
 slice-write-to : tie.Need-slice-write-to Inv-loop μ-loop
 slice-write-to c =
     let a = c .before .before .args in
@@ -52,15 +45,12 @@ slice-write-to c =
     let long = copied-long (a .t1) (a .to .now) (l .to) (l .i) (l .inv .1) (omega (arith, pre .0, pre .1)) (omega (arith, pre .2)) in
     omega (arith, pre .2)
 
--- src/read.rt:25:9
 add-i : tie.Need-add-i Inv-loop μ-loop
 add-i c = search needs
 
--- src/read.rt:23:5
 loop-less : tie.Need-loop-less Inv-loop μ-loop
 loop-less c = search needs
 
--- src/read.rt:23:5
 loop-again : tie.Need-loop-again Inv-loop μ-loop
 loop-again c =
     let a = c .before .before .args in
@@ -69,7 +59,6 @@ loop-again c =
     let test = c .loop-test .taken in
     (omega arith, copied-more (a .t1) (a .to .now) (l .to) (l .i) (l .inv .1) (omega (arith, pre .0, pre .1)) (omega (arith, pre .2)))
 
--- src/read.rt:18:1
 same-length : tie.Need-same-length Inv-loop μ-loop
 same-length c =
     let a = c .before .before .args in
@@ -78,7 +67,6 @@ same-length c =
     let bound = l .inv .0 in
     copied-long (a .t1) (a .to .now) (l .to) (l .i) (l .inv .1) (omega (arith, pre .0, pre .1)) (omega (arith, pre .2))
 
--- src/read.rt:18:1
 returns : tie.Need-returns Inv-loop μ-loop
 returns c =
     let a = c .before .before .args in

@@ -17,14 +17,6 @@ use Rattle.domain_list.proofs.States.{length-stops}
 use borrow.Author.Needs.{needs}
 use Rattle.domain_list.proofs.read.read_include.Statement.{statement}
 use Rattle.domain_list.proofs.read.read_include.Tie as tie
-use Rattle.domain_list.proofs.read.read_include.Reads as reads
-use Rattle.domain_list.proofs.read.read_include.Lts as lts
-use Rattle.domain_list.proofs.include.read_list.Reads as read-list-reads
-use Rattle.domain_list.proofs.read.copy_domains.Reads as copy-domains-reads
-use Rattle.domain_list.proofs.read.copy_marks.Reads as copy-marks-reads
-use Rattle.domain_list.proofs.read.copy_nodes.Reads as copy-nodes-reads
-use Rattle.domain_list.proofs.read.least.Reads as least-reads
-use Rattle.domain_list.proofs.read.read_verdict.Reads as read-verdict-reads
 
 -- the checks passed
 checked : (c : tie.After-enum-told) → Passed (c .before .before .before .before .before .before .before .before .args .profile .now) (c .before .before .before .before .before .before .before .before .args .ingress) (c .before .before .before .before .before .before .before .before .args .list .now)
@@ -39,15 +31,12 @@ sequence c =
     (sym (c .before .before .before .before .before .read-verdict .ensures) ∙ c .before .before .before .enum-told .given .1)
     (sym (ap (λ (v : Verdict). provided v (M.good (stopsOf (read .result .state)))) (c .enum-told2 .given .1)) ∙ (read .ensures) .means)
 
--- src/read.rt:102:9
 read-verdict-requires : tie.Need-read-verdict-requires
 read-verdict-requires c κs = search needs
 
--- src/read.rt:103:28
 enum-known-v : tie.Need-enum-known-v
 enum-known-v c = search needs
 
--- src/read.rt:104:9
 returns : tie.Need-returns
 returns c =
     let a = c .before .before .before .before .before .before .before .before .before .args in
@@ -57,18 +46,15 @@ returns c =
 enum-told : tie.Need-enum-told
 enum-told c = search needs
 
--- src/read.rt:106:9
 read-list-requires : tie.Need-read-list-requires
 read-list-requires c κs =
     let a = c .before .before .before .before .before .before .before .before .args in
     let p = checked c in
     ((whole-domains (a .profile .now) (p .profile), short-areas (a .profile .now) (p .profile), p .ingress), (p .size, p .form))
 
--- src/read.rt:108:28
 enum-known-verdict : tie.Need-enum-known-verdict
 enum-known-verdict c = search needs
 
--- src/read.rt:109:9
 returns-2 : tie.Need-returns-2
 returns-2 c =
     let a = c .before .before .before .before .before .before .before .before .before .before .before .before .args in
@@ -81,11 +67,9 @@ returns-2 c =
 enum-told-2 : tie.Need-enum-told-2
 enum-told-2 c = search needs
 
--- src/read.rt:113:8
 least-requires : tie.Need-least-requires
 least-requires c κs = search needs
 
--- src/read.rt:114:9
 returns-3 : tie.Need-returns-3
 returns-3 c =
     let a = c .before .before .before .before .before .before .before .before .before .before .before .before .before .before .args in
@@ -94,35 +78,27 @@ returns-3 c =
     refused-is (a .profile .now) (a .ingress) (a .list .now) (a .domains .now) (a .pinned .now) (a .pins .now) _
     (outcome-small (a .profile .now) (a .ingress) (a .list .now) _ (stopsOf st) (sequence (c .before .before .before)) (omega (arith, length-stops st, c .before .least .ensures)))
 
--- src/read.rt:120:5
 copy-domains-requires : tie.Need-copy-domains-requires
 copy-domains-requires c κs = search needs
 
--- src/read.rt:122:5
 copy-marks-requires : tie.Need-copy-marks-requires
 copy-marks-requires c κs = search needs
 
--- src/read.rt:124:5
 copy-nodes-requires : tie.Need-copy-nodes-requires
 copy-nodes-requires c κs = search needs
 
--- src/read.rt:125:31
 cast-t30 : tie.Need-cast-t30
 cast-t30 c = search needs
 
--- src/read.rt:92:1
 same-length : tie.Need-same-length
 same-length c = search needs
 
--- src/read.rt:92:1
 same-length-2 : tie.Need-same-length-2
 same-length-2 c = search needs
 
--- src/read.rt:92:1
 same-length-3 : tie.Need-same-length-3
 same-length-3 c = search needs
 
--- src/read.rt:92:1
 returns-4 : tie.Need-returns-4
 returns-4 c =
     let a = c .before .before .before .before .before .before .before .before .before .before .before .before .before .before .before .before .before .before .before .before .before .before .before .before .before .before .before .before .before .args in

@@ -9,24 +9,16 @@ use Rattle.domain_list.proofs.ReadChecks.{profile-refused, ingress-refu
 use borrow.Author.Needs.{needs}
 use Rattle.domain_list.proofs.read.read_verdict.Statement.{statement}
 use Rattle.domain_list.proofs.read.read_verdict.Tie as tie
-use Rattle.domain_list.proofs.read.read_verdict.Reads as reads
-use Rattle.domain_list.proofs.read.read_verdict.Lts as lts
-use Rattle.domain_list.proofs.form.form.Reads as form-reads
-use Rattle.profile.proofs.header.domain_count.Reads as domain-count-reads
-use Rattle.profile.proofs.verdict_on.Reads as verdict-on-reads
 
 taken : (c : tie.After-enum-told) → profileVerdict version1 (c .before .before .before .before .before .args .profile .now) ≡ Pass
 taken c = sym (c .before .before .verdict-on .ensures) ∙ c .enum-told .given .1
 
--- src/read.rt:56:9
 verdict-on-requires : tie.Need-verdict-on-requires
 verdict-on-requires c κs = search needs
 
--- src/read.rt:57:28
 enum-known-v : tie.Need-enum-known-v
 enum-known-v c = search needs
 
--- src/read.rt:58:9
 returns : tie.Need-returns
 returns c =
     let a = c .before .before .before .before .before .before .args in
@@ -35,27 +27,22 @@ returns c =
 enum-told : tie.Need-enum-told
 enum-told c = search needs
 
--- src/read.rt:60:8
 domain-count-requires : tie.Need-domain-count-requires
 domain-count-requires c κs = whole-header (c .before .before .before .before .before .args .profile .now) (taken c)
 
--- src/read.rt:61:9
 returns-2 : tie.Need-returns-2
 returns-2 c =
     let a = c .before .before .before .before .before .before .before .args in
     sym (ingress-refused (a .profile .now) (a .ingress) (a .list .now) (taken (c .before .before)) (le-leb _ _ (subst (λ (n : ℕ). n ≤ a .ingress) (c .before .domain-count .ensures) (c .if1 .taken))))
 
--- src/read.rt:67:9
 returns-3 : tie.Need-returns-3
 returns-3 c =
     let a = c .before .before .before .before .before .before .before .before .args in
     sym (size-refused (a .profile .now) (a .ingress) (a .list .now) (taken (c .before .before .before)) (lt-leb _ _ (subst (λ (n : ℕ). a .ingress < n) (c .before .before .domain-count .ensures) (c .before .if1 .left))) (lt-ltb _ _ (c .if2 .taken)))
 
--- src/read.rt:72:5
 form-requires : tie.Need-form-requires
 form-requires c κs = search needs
 
--- src/read.rt:53:1
 returns-4 : tie.Need-returns-4
 returns-4 c =
     let a = c .before .before .before .before .before .before .before .before .before .args in

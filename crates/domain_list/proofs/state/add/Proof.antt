@@ -3,44 +3,31 @@ use Rattle.domain_list.proofs.States.{added-state}
 use borrow.Author.Needs.{needs}
 use Rattle.domain_list.proofs.state.add.Statement.{statement}
 use Rattle.domain_list.proofs.state.add.Tie as tie
-use Rattle.domain_list.proofs.state.add.Reads as reads
-use Rattle.domain_list.proofs.state.add.Lts as lts
-use Rattle.domain_list.proofs.state.mark_of.Reads as mark-of-reads
-use Rattle.domain_list.proofs.state.node_of.Reads as node-of-reads
 
--- src/state.rt:62:5
 mul-domains : tie.Need-mul-domains
 mul-domains c = search needs
 
--- src/state.rt:62:5
 array-write-domains : tie.Need-array-write-domains
 array-write-domains c = search needs
 
--- src/state.rt:63:18
 mark-of-requires : tie.Need-mark-of-requires
 mark-of-requires c κs = search needs
 
--- src/state.rt:63:5
 array-write-pinned : tie.Need-array-write-pinned
 array-write-pinned c = search needs
 
--- src/state.rt:64:16
 node-of-requires : tie.Need-node-of-requires
 node-of-requires c κs = search needs
 
--- src/state.rt:64:5
 mul-pins : tie.Need-mul-pins
 mul-pins c = search needs
 
--- src/state.rt:64:5
 array-write-pins : tie.Need-array-write-pins
 array-write-pins c = search needs
 
--- src/state.rt:67:16
 add-t8 : tie.Need-add-t8
 add-t8 c = search needs
 
--- src/state.rt:53:1
 returns : tie.Need-returns
 returns c =
     let a = c .before .before .before .before .before .args in

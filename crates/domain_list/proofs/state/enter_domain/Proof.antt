@@ -7,40 +7,28 @@ use Rattle.domain_list.proofs.States.{stepped-refused, stepped-on, ente
 use borrow.Author.Needs.{needs}
 use Rattle.domain_list.proofs.state.enter_domain.Statement.{statement}
 use Rattle.domain_list.proofs.state.enter_domain.Tie as tie
-use Rattle.domain_list.proofs.state.enter_domain.Reads as reads
-use Rattle.domain_list.proofs.state.enter_domain.Lts as lts
-use Rattle.domain_list.proofs.state.add.Reads as add-reads
-use Rattle.domain_list.proofs.state.holds.Reads as holds-reads
-use Rattle.domain_list.proofs.subobject.refuse.Reads as refuse-reads
 
--- src/state.rt:99:24
 sub-here : tie.Need-sub-here
 sub-here c = search needs
 
--- src/state.rt:99:16
 mul-here : tie.Need-mul-here
 mul-here c = search needs
 
--- src/state.rt:99:16
 array-read-here : tie.Need-array-read-here
 array-read-here c = search needs
 
--- src/state.rt:101:9
 returns : tie.Need-returns
 returns c =
     let a = c .before .before .args in
     let pre = c .before .before .pre in
     stepped-on (a .st) _ _ (record { means = refl; sound = pre .0 }) (enter-here (a .at) (stateOf (a .st)) (a .d) (c .if1 .taken))
 
--- src/state.rt:106:8
 holds-requires : tie.Need-holds-requires
 holds-requires c κs = search needs
 
--- src/state.rt:108:22
 refuse-requires : tie.Need-refuse-requires
 refuse-requires c κs = search needs
 
--- src/state.rt:107:9
 returns-2 : tie.Need-returns-2
 returns-2 c =
     let a = c .before .before .before .before .before .args in
@@ -48,11 +36,9 @@ returns-2 c =
     stepped-refused (a .st) _ 30 (a .at) _ (pre .0) (c .refuse .ensures)
     (enter-back (a .at) (stateOf (a .st)) (a .d) (c .before .before .before .if1 .left) (sym (c .before .before .holds .ensures) ∙ c .before .if2 .taken))
 
--- src/state.rt:114:22
 refuse-requires-2 : tie.Need-refuse-requires-2
 refuse-requires-2 c κs = search needs
 
--- src/state.rt:113:9
 returns-3 : tie.Need-returns-3
 returns-3 c =
     let a = c .before .before .before .before .before .before .args in
@@ -61,11 +47,9 @@ returns-3 c =
     stepped-refused (a .st) _ 31 (a .at) _ (pre .0) (c .refuse2 .ensures)
     (enter-full (a .at) (stateOf (a .st)) (a .d) (c .before .before .before .before .if1 .left) (sym (c .before .before .before .holds .ensures) ∙ c .before .before .if2 .left) (omega (arith, length-stops (a .st))))
 
--- src/state.rt:120:16
 add-requires : tie.Need-add-requires
 add-requires c κs = search needs
 
--- src/state.rt:93:1
 returns-4 : tie.Need-returns-4
 returns-4 c =
     let a = c .before .before .before .before .before .before .args in

@@ -8,8 +8,6 @@ use lib.ListN.{getD}
 use Rattle.domain_list.proofs.States.{held, unheld}
 use Rattle.domain_list.proofs.state.holds.Statement.{statement}
 use Rattle.domain_list.proofs.state.holds.Tie as tie
-use Rattle.domain_list.proofs.state.holds.Reads as reads
-use Rattle.domain_list.proofs.state.holds.Lts as lts
 
 abbrev Inv-loop : tie.InvT-loop
 Inv-loop d n domains i₀ i = (i ≤ n) × ((k : ℕ) → k < i → getD domains k 0 ≡ d → ⊥)
@@ -17,43 +15,35 @@ Inv-loop d n domains i₀ i = (i ≤ n) × ((k : ℕ) → k < i → getD domains
 abbrev μ-loop : tie.MeasureT-loop
 μ-loop d n domains i₀ i = n - i
 
--- src/state.rt:83:5
 loop-holds : tie.Need-loop-holds Inv-loop μ-loop
 loop-holds c = (omega arith, λ k h e. omega arith)
 
--- src/state.rt:84:12
 mul-if1 : tie.Need-mul-if1 Inv-loop μ-loop
 mul-if1 c =
     let most = (c .before .before .before .pre) .most in
     let test = c .loop-test .taken in
     omega arith
 
--- src/state.rt:84:12
 array-read-if1 : tie.Need-array-read-if1 Inv-loop μ-loop
 array-read-if1 c =
     let most = (c .before .before .before .pre) .most in
     let test = c .loop-test .taken in
     omega arith
 
--- src/state.rt:85:13
 returns : tie.Need-returns Inv-loop μ-loop
 returns c =
     let a = c .before .before .before .before .args in
     sym (held (a .st) (a .d) (c .before .before .loop .i) (c .before .loop-test .taken) (c .if1 .taken))
 
--- src/state.rt:87:9
 add-i : tie.Need-add-i Inv-loop μ-loop
 add-i c = search needs
 
--- src/state.rt:83:5
 loop-less : tie.Need-loop-less Inv-loop μ-loop
 loop-less c = search needs
 
--- src/state.rt:83:5
 loop-again : tie.Need-loop-again Inv-loop μ-loop
 loop-again c = (search needs, below-more _ _ (c .before .before .loop .inv .1) (c .if1 .left))
 
--- src/state.rt:76:1
 returns-2 : tie.Need-returns-2 Inv-loop μ-loop
 returns-2 c =
     let a = c .before .before .before .args in

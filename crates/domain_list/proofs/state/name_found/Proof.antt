@@ -7,50 +7,37 @@ use Rattle.domain_list.proofs.States.{stepped-refused}
 use borrow.Author.Needs.{needs}
 use Rattle.domain_list.proofs.state.name_found.Statement.{statement}
 use Rattle.domain_list.proofs.state.name_found.Tie as tie
-use Rattle.domain_list.proofs.state.name_found.Reads as reads
-use Rattle.domain_list.proofs.state.name_found.Lts as lts
-use Rattle.domain_list.proofs.state.enter_domain.Reads as enter-domain-reads
-use Rattle.domain_list.proofs.subobject.refuse.Reads as refuse-reads
 
--- src/state.rt:131:22
 enum-told : tie.Need-enum-told
 enum-told c = search needs
 
--- src/state.rt:131:22
 refuse-requires : tie.Need-refuse-requires
 refuse-requires c κs = search needs
 
--- src/state.rt:134:22
 enum-known-found : tie.Need-enum-known-found
 enum-known-found c = search needs
 
--- src/state.rt:134:34
 enter-domain-requires : tie.Need-enter-domain-requires
 enter-domain-requires c κs = search needs
 
--- src/state.rt:136:22
 enum-told-2 : tie.Need-enum-told-2
 enum-told-2 c = search needs
 
--- src/state.rt:136:22
 refuse-requires-2 : tie.Need-refuse-requires-2
 refuse-requires-2 c κs = search needs
 
--- src/state.rt:125:1
 returns : tie.Need-returns
 returns c =
     let a = c .before .before .before .args in
     let pre = c .before .before .before .pre in
     stepped-refused (a .st) _ 28 (a .at) _ (pre .0) (c .refuse .ensures) (ap (nameFound (a .at) (stateOf (a .st))) (c .before .enum-told .given .1))
 
--- src/state.rt:125:1
 returns-2 : tie.Need-returns-2
 returns-2 c =
     let a = c .before .before .before .before .args in
     let pre = c .before .before .before .before .pre in
     subst (λ (x : Found). SteppedIs (c .enter-domain .result) (nameFound (a .at) (stateOf (a .st)) x)) (sym (c .before .before .found .given .1)) (c .enter-domain .ensures)
 
--- src/state.rt:125:1
 returns-3 : tie.Need-returns-3
 returns-3 c =
     let a = c .before .before .before .args in

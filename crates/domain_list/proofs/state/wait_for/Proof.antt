@@ -8,27 +8,19 @@ use Rattle.domain_list.proofs.States.{stepped-refused, stepped-on, chan
 use borrow.Author.Needs.{needs}
 use Rattle.domain_list.proofs.state.wait_for.Statement.{statement}
 use Rattle.domain_list.proofs.state.wait_for.Tie as tie
-use Rattle.domain_list.proofs.state.wait_for.Reads as reads
-use Rattle.domain_list.proofs.state.wait_for.Lts as lts
-use Rattle.domain_list.proofs.subobject.refuse.Reads as refuse-reads
 
--- src/state.rt:150:22
 enum-told : tie.Need-enum-told
 enum-told c = search needs
 
--- src/state.rt:150:22
 refuse-requires : tie.Need-refuse-requires
 refuse-requires c κs = search needs
 
--- src/state.rt:154:17
 enum-told-2 : tie.Need-enum-told-2
 enum-told-2 c = search needs
 
--- src/state.rt:166:33
 cast-t11 : tie.Need-cast-t11
 cast-t11 c = search needs
 
--- src/state.rt:143:1
 returns : tie.Need-returns
 returns c =
     let a = c .before .before .before .args in
@@ -36,7 +28,6 @@ returns c =
     stepped-refused (a .st) _ 32 (a .at) _ (pre .0) (c .refuse .ensures)
     (ap (λ (w : Waiting). M.wait (a .at) (stateOf (a .st)) (a .node) (waitingOf w)) (c .before .enum-told .given .1))
 
--- src/state.rt:143:1
 returns-2 : tie.Need-returns-2
 returns-2 c =
     let a = c .before .before .before .before .before .args in

@@ -11,8 +11,6 @@ use Rattle.domain_list.specs.Items.{zeroFrom}
 use Rattle.domain_list.proofs.Zeros.{zero-end, zero-hit, zero-more}
 use Rattle.domain_list.proofs.subobject.all_zero.Statement.{statement}
 use Rattle.domain_list.proofs.subobject.all_zero.Tie as tie
-use Rattle.domain_list.proofs.subobject.all_zero.Reads as reads
-use Rattle.domain_list.proofs.subobject.all_zero.Lts as lts
 
 abbrev Inv-loop : tie.InvT-loop
 Inv-loop list from to i₀ i = (i ≤ to) × (zeroFrom list i to ≡ zeroFrom list from to)
@@ -20,30 +18,24 @@ Inv-loop list from to i₀ i = (i ≤ to) × (zeroFrom list i to ≡ zeroFrom li
 abbrev μ-loop : tie.MeasureT-loop
 μ-loop list from to i₀ i = to - i
 
--- src/subobject.rt:75:5
 loop-holds : tie.Need-loop-holds Inv-loop μ-loop
 loop-holds c = (search needs, refl)
 
--- src/subobject.rt:76:12
 shared-slice-read-if1 : tie.Need-shared-slice-read-if1 Inv-loop μ-loop
 shared-slice-read-if1 c = search needs
 
--- src/subobject.rt:77:13
 returns : tie.Need-returns Inv-loop μ-loop
 returns c =
     let a = c .before .before .before .before .args in
     sym (zero-hit (a .list .now) (c .before .before .before .loop .i) (a .to) (c .before .before .loop-test .taken) (omega arith) (c .if1 .taken))
     ∙ c .before .before .before .loop .inv .1
 
--- src/subobject.rt:79:9
 add-i : tie.Need-add-i Inv-loop μ-loop
 add-i c = search needs
 
--- src/subobject.rt:75:5
 loop-less : tie.Need-loop-less Inv-loop μ-loop
 loop-less c = search needs
 
--- src/subobject.rt:75:5
 loop-again : tie.Need-loop-again Inv-loop μ-loop
 loop-again c =
     let a = c .before .before .before .before .args in
@@ -54,7 +46,6 @@ loop-again c =
           ∙ c .before .before .before .loop .inv .1),
     )
 
--- src/subobject.rt:70:1
 returns-2 : tie.Need-returns-2 Inv-loop μ-loop
 returns-2 c =
     let a = c .before .before .args in

@@ -2,22 +2,16 @@
 use borrow.Author.Tests.{eq-eqb, ne-eqb, le-leb, lt-leb}
 use Rattle.domain_list.proofs.subobject.area_wrong.Statement.{statement}
 use Rattle.domain_list.proofs.subobject.area_wrong.Tie as tie
-use Rattle.domain_list.proofs.subobject.area_wrong.Reads as reads
-use Rattle.domain_list.proofs.subobject.area_wrong.Lts as lts
 
--- src/subobject.rt:108:9
 returns : tie.Need-returns
 returns c = simp (ne-eqb _ _ (c .if1 .taken))
 
--- src/subobject.rt:111:9
 returns-2 : tie.Need-returns-2
 returns-2 c = simp (eq-eqb _ _ (c .before .if1 .left), lt-leb _ _ (c .if2 .taken))
 
--- src/subobject.rt:114:9
 returns-3 : tie.Need-returns-3
 returns-3 c = simp (eq-eqb _ _ (c .before .before .if1 .left), le-leb _ _ (c .before .if2 .left), lt-leb _ _ (c .if3 .taken))
 
--- src/subobject.rt:104:1
 returns-4 : tie.Need-returns-4
 returns-4 c = simp (eq-eqb _ _ (c .before .before .if1 .left), le-leb _ _ (c .before .if2 .left), le-leb _ _ (c .if3 .left))
 

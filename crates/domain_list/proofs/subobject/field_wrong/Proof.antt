@@ -9,65 +9,47 @@ use Rattle.domain_list.proofs.FormLaws.{room-1, padded, padding, field-
 use borrow.Author.Needs.{needs}
 use Rattle.domain_list.proofs.subobject.field_wrong.Statement.{statement}
 use Rattle.domain_list.proofs.subobject.field_wrong.Tie as tie
-use Rattle.domain_list.proofs.subobject.field_wrong.Reads as reads
-use Rattle.domain_list.proofs.subobject.field_wrong.Lts as lts
-use Rattle.domain_list.proofs.subobject.all_zero.Reads as all-zero-reads
-use Rattle.domain_list.proofs.subobject.prefix_wrong.Reads as prefix-wrong-reads
-use Rattle.domain_list.proofs.subobject.wide.Reads as wide-reads
 
--- src/subobject.rt:121:13
 shared-slice-read-t : tie.Need-shared-slice-read-t
 shared-slice-read-t c = search needs
 
--- src/subobject.rt:123:9
 prefix-wrong-requires : tie.Need-prefix-wrong-requires
 prefix-wrong-requires c κs =
     let a = c .before .before .before .args in
     room-1 (a .list .now) (a .at) (c .before .before .before .pre) (c .if1 .taken)
 
--- src/subobject.rt:123:9
 returns : tie.Need-returns
 returns c =
     let a = c .before .before .before .before .args in
     c .prefix-wrong .ensures ∙ field-1 (a .kind) (a .list .now) (a .at) (c .before .if1 .taken)
 
--- src/subobject.rt:126:21
 add-start : tie.Need-add-start
 add-start c = search needs
 
--- src/subobject.rt:126:40
 add-wide : tie.Need-add-wide
 add-wide c = search needs
 
--- src/subobject.rt:126:35
 shared-slice-read-wide : tie.Need-shared-slice-read-wide
 shared-slice-read-wide c = search needs
 
--- src/subobject.rt:126:30
 wide-requires : tie.Need-wide-requires
 wide-requires c κs = search needs
 
--- src/subobject.rt:126:21
 add-start-2 : tie.Need-add-start-2
 add-start-2 c = search needs
 
--- src/subobject.rt:127:54
 add-wide-2 : tie.Need-add-wide-2
 add-wide-2 c = search needs
 
--- src/subobject.rt:127:49
 shared-slice-read-wide-2 : tie.Need-shared-slice-read-wide-2
 shared-slice-read-wide-2 c = search needs
 
--- src/subobject.rt:127:44
 wide-requires-2 : tie.Need-wide-requires-2
 wide-requires-2 c κs = search needs
 
--- src/subobject.rt:127:39
 add-all-zero : tie.Need-add-all-zero
 add-all-zero c = search needs
 
--- src/subobject.rt:127:17
 all-zero-requires : tie.Need-all-zero-requires
 all-zero-requires c κs =
     let a = c .before .before .before .before .before .before .before .before .args in
@@ -78,7 +60,6 @@ all-zero-requires c κs =
     let v = c .wide2 .ensures in
     (omega arith, omega arith)
 
--- src/subobject.rt:127:9
 returns-2 : tie.Need-returns-2
 returns-2 c =
     let a = c .before .before .before .before .before .before .before .before .before .args in
@@ -89,7 +70,6 @@ returns-2 c =
     ∙ padding (a .list .now) (a .at) (c .before .before .before .before .before .before .before .before .before .pre) e
     ∙ field-7 (a .kind) (a .list .now) (a .at) e
 
--- src/subobject.rt:117:1
 returns-3 : tie.Need-returns-3
 returns-3 c =
     let a = c .before .before .before .before .args in

@@ -13,14 +13,6 @@ use Rattle.domain_list.proofs.FormLaws.{areaWrong, short, unknown, mark
 use borrow.Author.Needs.{needs}
 use Rattle.domain_list.proofs.subobject.form_at.Statement.{statement}
 use Rattle.domain_list.proofs.subobject.form_at.Tie as tie
-use Rattle.domain_list.proofs.subobject.form_at.Reads as reads
-use Rattle.domain_list.proofs.subobject.form_at.Lts as lts
-use Rattle.domain_list.proofs.subobject.area_wrong.Reads as area-wrong-reads
-use Rattle.domain_list.proofs.subobject.field_wrong.Reads as field-wrong-reads
-use Rattle.domain_list.proofs.subobject.length_of.Reads as length-of-reads
-use Rattle.domain_list.proofs.subobject.refuse.Reads as refuse-reads
-use Rattle.domain_list.proofs.subobject.top_wrong.Reads as top-wrong-reads
-use Rattle.domain_list.proofs.subobject.wide.Reads as wide-reads
 
 -- what the tests passed say, place by place
 four : (c : tie.Else1) → ltb (length (c .before .before .args .list .now)) (c .before .before .args .at + 4) ≡ false
@@ -53,54 +45,42 @@ in-list c =
     let k = c .before .before .before .before .before .before .before .before .before .before .before .before .before .before .pre .0 in
     le-ltb (length (c .before .before .before .before .before .before .before .before .before .before .before .before .before .before .args .list .now)) (c .before .before .before .before .before .before .before .before .before .before .before .before .before .before .args .at + lengthAt (c .before .before .before .before .before .before .before .before .before .before .before .before .before .before .args .list .now) (c .before .before .before .before .before .before .before .before .before .before .before .before .before .before .args .at)) (omega arith)
 
--- src/subobject.rt:150:16
 sub-left : tie.Need-sub-left
 sub-left c = search needs
 
--- src/subobject.rt:152:9
 refuse-requires : tie.Need-refuse-requires
 refuse-requires c κs = search needs
 
--- src/subobject.rt:152:9
 returns : tie.Need-returns
 returns c =
     let a = c .before .before .before .args in
     let s = a .list .now in
     c .refuse .ensures ∙ sym (short (a .kind) s (a .at) (lt-ltb (length s) (a .at + 4) (omega arith)))
 
--- src/subobject.rt:154:17
 shared-slice-read-first : tie.Need-shared-slice-read-first
 shared-slice-read-first c = search needs
 
--- src/subobject.rt:156:23
 add-wide : tie.Need-add-wide
 add-wide c = search needs
 
--- src/subobject.rt:156:18
 shared-slice-read-wide : tie.Need-shared-slice-read-wide
 shared-slice-read-wide c = search needs
 
--- src/subobject.rt:156:9
 wide-requires : tie.Need-wide-requires
 wide-requires c κs = search needs
 
--- src/subobject.rt:157:21
 add-area : tie.Need-add-area
 add-area c = search needs
 
--- src/subobject.rt:157:16
 shared-slice-read-area : tie.Need-shared-slice-read-area
 shared-slice-read-area c = search needs
 
--- src/subobject.rt:158:9
 length-of-requires : tie.Need-length-of-requires
 length-of-requires c κs = search needs
 
--- src/subobject.rt:160:9
 refuse-requires-2 : tie.Need-refuse-requires-2
 refuse-requires-2 c κs = search needs
 
--- src/subobject.rt:160:9
 returns-2 : tie.Need-returns-2
 returns-2 c =
     let a = c .before .before .before .before .before .before .before .before .before .args in
@@ -111,15 +91,12 @@ returns-2 c =
     (known-length (areaLengthAt s (a .at)) (typeAt s (a .at))
     ∙ ap (λ (n : ℕ). not (eqb n 0)) (sym (c .before .before .length-of .ensures) ∙ c .before .if2 .taken)))
 
--- src/subobject.rt:162:8
 top-wrong-requires : tie.Need-top-wrong-requires
 top-wrong-requires c κs = search needs
 
--- src/subobject.rt:163:9
 refuse-requires-3 : tie.Need-refuse-requires-3
 refuse-requires-3 c κs = search needs
 
--- src/subobject.rt:163:9
 returns-3 : tie.Need-returns-3
 returns-3 c =
     let a = c .before .before .before .before .before .before .before .before .before .before .before .args in
@@ -127,15 +104,12 @@ returns-3 c =
     c .refuse3 .ensures
     ∙ sym (marked (a .kind) s (a .at) (four (c .before .before .before .before .before .before .before .before .before)) (is-known (c .before .before .before)) (sym (c .before .before .top-wrong .ensures) ∙ c .before .if3 .taken))
 
--- src/subobject.rt:165:8
 area-wrong-requires : tie.Need-area-wrong-requires
 area-wrong-requires c κs = search needs
 
--- src/subobject.rt:166:9
 refuse-requires-4 : tie.Need-refuse-requires-4
 refuse-requires-4 c κs = search needs
 
--- src/subobject.rt:166:9
 returns-4 : tie.Need-returns-4
 returns-4 c =
     let a = c .before .before .before .before .before .before .before .before .before .before .before .before .before .args in
@@ -144,15 +118,12 @@ returns-4 c =
     ∙ sym
     (bad-area (a .kind) s (a .at) (four (c .before .before .before .before .before .before .before .before .before .before .before)) (is-known (c .before .before .before .before .before)) (unmarked (c .before .before .before)) (sym (c .before .before .area-wrong .ensures) ∙ c .before .if4 .taken))
 
--- src/subobject.rt:168:8
 cast-if5 : tie.Need-cast-if5
 cast-if5 c = search needs
 
--- src/subobject.rt:169:9
 refuse-requires-5 : tie.Need-refuse-requires-5
 refuse-requires-5 c κs = search needs
 
--- src/subobject.rt:169:9
 returns-5 : tie.Need-returns-5
 returns-5 c =
     let a = c .before .before .before .before .before .before .before .before .before .before .before .before .before .before .args in
@@ -166,11 +137,9 @@ returns-5 c =
     ∙ ne-eqb (lengthAt s (a .at)) (lengthOf (typeAt s (a .at)) (areaLengthAt s (a .at)))
     (λ e. c .before .if5 .taken (n ∙ e ∙ sym (c .before .before .before .before .before .before .before .length-of .ensures)))))
 
--- src/subobject.rt:172:9
 refuse-requires-6 : tie.Need-refuse-requires-6
 refuse-requires-6 c κs = search needs
 
--- src/subobject.rt:172:9
 returns-6 : tie.Need-returns-6
 returns-6 c =
     let a = c .before .before .before .before .before .before .before .before .before .before .before .before .before .before .before .args in
@@ -183,7 +152,6 @@ returns-6 c =
     (past-end (a .kind) s (a .at) (four (c .before .before .before .before .before .before .before .before .before .before .before .before .before)) (is-known (c .before .before .before .before .before .before .before)) (unmarked (c .before .before .before .before .before)) (area-right (c .before .before .before)) (length-right (c .before .before))
     (lt-ltb (length s) (a .at + lengthAt s (a .at)) (omega arith)))
 
--- src/subobject.rt:174:8
 field-wrong-requires : tie.Need-field-wrong-requires
 field-wrong-requires c κs =
     let a = c .before .before .before .before .before .before .before .before .before .before .before .before .before .before .args in
@@ -194,11 +162,9 @@ field-wrong-requires c κs =
       fits = length-right (c .before);
     }
 
--- src/subobject.rt:175:9
 refuse-requires-7 : tie.Need-refuse-requires-7
 refuse-requires-7 c κs = search needs
 
--- src/subobject.rt:175:9
 returns-7 : tie.Need-returns-7
 returns-7 c =
     let a = c .before .before .before .before .before .before .before .before .before .before .before .before .before .before .before .before .before .args in
@@ -208,7 +174,6 @@ returns-7 c =
     (bad-field (a .kind) s (a .at) (four (c .before .before .before .before .before .before .before .before .before .before .before .before .before .before .before)) (is-known (c .before .before .before .before .before .before .before .before .before)) (unmarked (c .before .before .before .before .before .before .before)) (area-right (c .before .before .before .before .before)) (length-right (c .before .before .before .before)) (in-list (c .before .before .before))
     (sym (c .before .before .field-wrong .ensures) ∙ c .before .if7 .taken))
 
--- src/subobject.rt:146:1
 returns-8 : tie.Need-returns-8
 returns-8 c =
     let a = c .before .before .before .before .before .before .before .before .before .before .before .before .before .before .before .before .args in

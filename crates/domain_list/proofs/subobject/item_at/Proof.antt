@@ -7,36 +7,25 @@ use Rattle.laws.proofs.Walk.{length-least}
 use borrow.Author.Needs.{needs}
 use Rattle.domain_list.proofs.subobject.item_at.Statement.{statement}
 use Rattle.domain_list.proofs.subobject.item_at.Tie as tie
-use Rattle.domain_list.proofs.subobject.item_at.Reads as reads
-use Rattle.domain_list.proofs.subobject.item_at.Lts as lts
-use Rattle.domain_list.proofs.subobject.named_at.Reads as named-at-reads
-use Rattle.domain_list.proofs.subobject.wide.Reads as wide-reads
 
--- src/subobject.rt:240:9
 named-at-requires : tie.Need-named-at-requires
 named-at-requires c κs = search needs
 
--- src/subobject.rt:243:21
 shared-slice-read-t5 : tie.Need-shared-slice-read-t5
 shared-slice-read-t5 c = search needs
 
--- src/subobject.rt:245:30
 add-wide : tie.Need-add-wide
 add-wide c = search needs
 
--- src/subobject.rt:245:25
 shared-slice-read-wide : tie.Need-shared-slice-read-wide
 shared-slice-read-wide c = search needs
 
--- src/subobject.rt:245:20
 wide-requires : tie.Need-wide-requires
 wide-requires c κs = search needs
 
--- src/subobject.rt:245:15
 add-t11 : tie.Need-add-t11
 add-t11 c = search needs
 
--- src/subobject.rt:236:1
 returns : tie.Need-returns
 returns c =
     let a = c .before .before .before .before .before .args in

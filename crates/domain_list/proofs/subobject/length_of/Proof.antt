@@ -10,9 +10,6 @@ use Rattle.domain_list.specs.Lengths.{lengthIn, lengthOf}
 use Rattle.domain_list.proofs.Table.{fixed, withArea, fixed-small, product-small, scan-hit, scan-miss, scan-end}
 use Rattle.domain_list.proofs.subobject.length_of.Statement.{statement}
 use Rattle.domain_list.proofs.subobject.length_of.Tie as tie
-use Rattle.domain_list.proofs.subobject.length_of.Reads as reads
-use Rattle.domain_list.proofs.subobject.length_of.Lts as lts
-use Rattle.domain_list.proofs.subobject.rounded_up.Reads as rounded-up-reads
 
 abbrev Inv-loop : tie.InvT-loop
 Inv-loop t area i₀ i = (i ≤ 5) × (lengthIn (drop i lengthRules) t area ≡ lengthOf t area)
@@ -20,44 +17,34 @@ Inv-loop t area i₀ i = (i ≤ 5) × (lengthIn (drop i lengthRules) t area ≡ 
 abbrev μ-loop : tie.MeasureT-loop
 μ-loop t area i₀ i = 5 - i
 
--- src/subobject.rt:25:5
 loop-holds : tie.Need-loop-holds Inv-loop μ-loop
 unfolding lengthOf
 loop-holds c = (omega arith, refl)
 
--- src/subobject.rt:26:12
 array-read-if1 : tie.Need-array-read-if1 Inv-loop μ-loop
 array-read-if1 c = search needs
 
--- src/subobject.rt:27:20
 mul-result : tie.Need-mul-result Inv-loop μ-loop
 mul-result c = search needs
 
--- src/subobject.rt:27:20
 array-read-result : tie.Need-array-read-result Inv-loop μ-loop
 array-read-result c = search needs
 
--- src/subobject.rt:27:31
 mul-result-2 : tie.Need-mul-result-2 Inv-loop μ-loop
 mul-result-2 c = search needs
 
--- src/subobject.rt:27:31
 array-read-result-2 : tie.Need-array-read-result-2 Inv-loop μ-loop
 array-read-result-2 c = search needs
 
--- src/subobject.rt:27:46
 rounded-up-requires : tie.Need-rounded-up-requires Inv-loop μ-loop
 rounded-up-requires c κs = tt
 
--- src/subobject.rt:27:31
 mul-result-3 : tie.Need-mul-result-3 Inv-loop μ-loop
 mul-result-3 c = record { fits = omega (arith, product-small (c .before .before .before .loop .i) (c .rounded-up .result) (c .before .before .loop-test .taken) (c .rounded-up .ensures .1)) }
 
--- src/subobject.rt:27:20
 add-result : tie.Need-add-result Inv-loop μ-loop
 add-result c = record { fits = omega (arith, product-small (c .before .before .before .loop .i) (c .rounded-up .result) (c .before .before .loop-test .taken) (c .rounded-up .ensures .1), fixed-small (c .before .before .before .loop .i) (c .before .before .loop-test .taken)) }
 
--- src/subobject.rt:27:13
 returns : tie.Need-returns Inv-loop μ-loop
 returns c =
     let i = c .before .before .before .loop .i in
@@ -66,15 +53,12 @@ returns c =
     ∙ scan-hit i (c .before .before .loop-test .taken) (a .t) (a .area) (c .before .if1 .taken)
     ∙ c .before .before .before .loop .inv .1
 
--- src/subobject.rt:29:9
 add-i : tie.Need-add-i Inv-loop μ-loop
 add-i c = search needs
 
--- src/subobject.rt:25:5
 loop-less : tie.Need-loop-less Inv-loop μ-loop
 loop-less c = search needs
 
--- src/subobject.rt:25:5
 loop-again : tie.Need-loop-again Inv-loop μ-loop
 loop-again c =
     let i = c .before .before .loop .i in
@@ -83,7 +67,6 @@ loop-again c =
       rw add-one (sym (scan-miss i (c .before .loop-test .taken) (a .t) (a .area) (c .if1 .left)) ∙ c .before .before .loop .inv .1),
     )
 
--- src/subobject.rt:21:1
 returns-2 : tie.Need-returns-2 Inv-loop μ-loop
 returns-2 c =
     let a = c .before .before .args in

@@ -9,21 +9,13 @@ use Rattle.domain_list.proofs.FormLaws.{room-1, room-5, room-6, room-7,
 use borrow.Author.Needs.{needs}
 use Rattle.domain_list.proofs.subobject.named_at.Statement.{statement}
 use Rattle.domain_list.proofs.subobject.named_at.Tie as tie
-use Rattle.domain_list.proofs.subobject.named_at.Reads as reads
-use Rattle.domain_list.proofs.subobject.named_at.Lts as lts
-use Rattle.domain_list.proofs.subobject.wide.Reads as wide-reads
-use Rattle.wire.proofs.u16_at.Reads as u16-at-reads
-use Rattle.wire.proofs.u32_at.Reads as u32-at-reads
 
--- src/subobject.rt:190:13
 shared-slice-read-t : tie.Need-shared-slice-read-t
 shared-slice-read-t c = search needs
 
--- src/subobject.rt:193:35
 add-u32-at : tie.Need-add-u32-at
 add-u32-at c = search needs
 
--- src/subobject.rt:193:22
 u32-at-requires : tie.Need-u32-at-requires
 u32-at-requires c κs =
     let a = c .before .before .before .args in
@@ -32,11 +24,9 @@ u32-at-requires c κs =
     let h = room-1 s (a .at) pre (c .if1 .taken) in
     omega arith
 
--- src/subobject.rt:194:24
 add-t9 : tie.Need-add-t9
 add-t9 c = search needs
 
--- src/subobject.rt:194:19
 shared-slice-read-t11 : tie.Need-shared-slice-read-t11
 shared-slice-read-t11 c =
     let a = c .before .before .before .before .before .args in
@@ -45,7 +35,6 @@ shared-slice-read-t11 c =
     let h = room-1 s (a .at) pre (c .before .before .if1 .taken) in
     omega arith
 
--- src/subobject.rt:192:9
 returns : tie.Need-returns
 returns c =
     let a = c .before .before .before .before .before .args in
@@ -56,11 +45,9 @@ returns c =
       area = tt;
     }
 
--- src/subobject.rt:199:31
 add-u32-at-2 : tie.Need-add-u32-at-2
 add-u32-at-2 c = search needs
 
--- src/subobject.rt:199:18
 u32-at-requires-2 : tie.Need-u32-at-requires-2
 u32-at-requires-2 c κs =
     let a = c .before .before .before .before .args in
@@ -69,7 +56,6 @@ u32-at-requires-2 c κs =
     let h = room-5 s (a .at) pre (c .if2 .taken) in
     omega arith
 
--- src/subobject.rt:198:9
 returns-2 : tie.Need-returns-2
 returns-2 c =
     let a = c .before .before .before .before .before .args in
@@ -77,11 +63,9 @@ returns-2 c =
     let pre = c .before .before .before .before .before .pre in
     record { named = ap system (c .u32-at2 .ensures) ∙ sym (named-5 s (a .at) (c .before .if2 .taken)); area = tt }
 
--- src/subobject.rt:205:20
 add-t14 : tie.Need-add-t14
 add-t14 c = search needs
 
--- src/subobject.rt:203:9
 returns-3 : tie.Need-returns-3
 returns-3 c =
     let a = c .before .before .before .before .before .args in
@@ -90,23 +74,18 @@ returns-3 c =
     let h = room-6 s (a .at) pre (c .if3 .taken) in
     record { named = sym (named-6 s (a .at) (c .if3 .taken)); area = omega arith }
 
--- src/subobject.rt:212:20
 add-t15 : tie.Need-add-t15
 add-t15 c = search needs
 
--- src/subobject.rt:213:30
 add-wide : tie.Need-add-wide
 add-wide c = search needs
 
--- src/subobject.rt:213:25
 shared-slice-read-wide : tie.Need-shared-slice-read-wide
 shared-slice-read-wide c = search needs
 
--- src/subobject.rt:213:20
 wide-requires : tie.Need-wide-requires
 wide-requires c κs = search needs
 
--- src/subobject.rt:210:9
 returns-4 : tie.Need-returns-4
 returns-4 c =
     let a = c .before .before .before .before .before .before .before .before .args in
@@ -120,19 +99,15 @@ returns-4 c =
       area = omega arith;
     }
 
--- src/subobject.rt:217:27
 add-u16-at : tie.Need-add-u16-at
 add-u16-at c = search needs
 
--- src/subobject.rt:217:14
 u16-at-requires : tie.Need-u16-at-requires
 u16-at-requires c κs = search needs
 
--- src/subobject.rt:217:14
 cast-t22 : tie.Need-cast-t22
 cast-t22 c = search needs
 
--- src/subobject.rt:186:1
 returns-5 : tie.Need-returns-5
 returns-5 c =
     let a = c .before .before .before .before .before .before .before .args in

@@ -3,42 +3,31 @@ use borrow.Author.Tests.{lt-ltb, le-ltb}
 use borrow.Author.Needs.{needs}
 use Rattle.domain_list.proofs.subobject.prefix_wrong.Statement.{statement}
 use Rattle.domain_list.proofs.subobject.prefix_wrong.Tie as tie
-use Rattle.domain_list.proofs.subobject.prefix_wrong.Reads as reads
-use Rattle.domain_list.proofs.subobject.prefix_wrong.Lts as lts
 
--- src/subobject.rt:89:21
 add-bits : tie.Need-add-bits
 add-bits c = search needs
 
--- src/subobject.rt:89:16
 shared-slice-read-bits : tie.Need-shared-slice-read-bits
 shared-slice-read-bits c = search needs
 
--- src/subobject.rt:91:30
 enum-told : tie.Need-enum-told
 enum-told c = search needs
 
--- src/subobject.rt:93:16
 enum-told-2 : tie.Need-enum-told-2
 enum-told-2 c = search needs
 
--- src/subobject.rt:94:17
 returns : tie.Need-returns
 returns c = simp (c .before .enum-told2 .given .1, lt-ltb _ _ (c .if1 .taken))
 
--- src/subobject.rt:96:18
 add-result : tie.Need-add-result
 add-result c = search needs
 
--- src/subobject.rt:96:13
 shared-slice-read-result : tie.Need-shared-slice-read-result
 shared-slice-read-result c = search needs
 
--- src/subobject.rt:85:1
 returns-2 : tie.Need-returns-2
 returns-2 c = simp (c .enum-told .given .1)
 
--- src/subobject.rt:85:1
 returns-3 : tie.Need-returns-3
 returns-3 c = simp (c .before .before .enum-told2 .given .1, le-ltb _ _ (c .before .if1 .left))
 

@@ -6,37 +6,27 @@ use Rattle.domain_list.proofs.FormLaws.{readable}
 use borrow.Author.Needs.{needs}
 use Rattle.domain_list.proofs.subobject.read_at.Statement.{statement}
 use Rattle.domain_list.proofs.subobject.read_at.Tie as tie
-use Rattle.domain_list.proofs.subobject.read_at.Reads as reads
-use Rattle.domain_list.proofs.subobject.read_at.Lts as lts
-use Rattle.domain_list.proofs.subobject.form_at.Reads as form-at-reads
-use Rattle.domain_list.proofs.subobject.item_at.Reads as item-at-reads
 
 passed : (c : tie.After-enum-told) → subobjectVerdict (c .before .before .before .before .args .kind) (c .before .before .before .before .args .list .now) (c .before .before .before .before .args .at) ≡ Pass
 passed c = sym (c .before .before .form-at .ensures) ∙ c .enum-told .given .1
 
--- src/subobject.rt:254:9
 form-at-requires : tie.Need-form-at-requires
 form-at-requires c κs = search needs
 
--- src/subobject.rt:256:25
 enum-known-form : tie.Need-enum-known-form
 enum-known-form c = search needs
 
--- src/subobject.rt:257:37
 enum-told : tie.Need-enum-told
 enum-told c = search needs
 
--- src/subobject.rt:257:37
 item-at-requires : tie.Need-item-at-requires
 item-at-requires c κs =
     let a = c .before .before .before .before .args in
     readable (a .kind) (a .list .now) (a .at) (passed c)
 
--- src/subobject.rt:250:1
 returns : tie.Need-returns
 returns c = sym (c .before .before .before .form-at .ensures) ∙ c .before .form .given .1
 
--- src/subobject.rt:250:1
 returns-2 : tie.Need-returns-2
 returns-2 c = c .item-at .ensures (c .before .before .before .before .before .args .kind) (passed (c .before))
 

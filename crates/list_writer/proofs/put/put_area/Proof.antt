@@ -6,11 +6,6 @@ use Rattle.list_writer.proofs.Parts.{no-area, ospf-put, isis-put}
 use borrow.Author.Needs.{needs}
 use Rattle.list_writer.proofs.put.put_area.Statement.{statement}
 use Rattle.list_writer.proofs.put.put_area.Tie as tie
-use Rattle.list_writer.proofs.put.put_area.Reads as reads
-use Rattle.list_writer.proofs.put.put_area.Lts as lts
-use Rattle.list_writer.proofs.put.put_bytes.Reads as put-bytes-reads
-use Rattle.list_writer.proofs.put.put_head.Reads as put-head-reads
-use Rattle.list_writer.proofs.put.put_isis.Reads as put-isis-reads
 
 returns : tie.Need-returns
 returns c =

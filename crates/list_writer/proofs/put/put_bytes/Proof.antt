@@ -9,8 +9,6 @@ use lib.Seq.{paste, paste-zero}
 use Rattle.list_writer.proofs.Places.{one-more, all-put}
 use Rattle.list_writer.proofs.put.put_bytes.Statement.{statement}
 use Rattle.list_writer.proofs.put.put_bytes.Tie as tie
-use Rattle.list_writer.proofs.put.put_bytes.Reads as reads
-use Rattle.list_writer.proofs.put.put_bytes.Lts as lts
 
 abbrev Inv-loop : tie.InvT-loop
 Inv-loop out₀ at n bytes j₀ out j = (j ≤ n) × (out ≡ paste out₀ at bytes j) × (length out ≡ length out₀)

@@ -5,8 +5,6 @@ use Rattle.list_writer.proofs.Places.{four-put}
 use borrow.Author.Needs.{needs}
 use Rattle.list_writer.proofs.put.put_head.Statement.{statement}
 use Rattle.list_writer.proofs.put.put_head.Tie as tie
-use Rattle.list_writer.proofs.put.put_head.Reads as reads
-use Rattle.list_writer.proofs.put.put_head.Lts as lts
 
 slice-write-out : tie.Need-slice-write-out
 slice-write-out c = search needs

@@ -7,11 +7,6 @@ use Rattle.list_writer.proofs.Places.{put-append}
 use borrow.Author.Needs.{needs}
 use Rattle.list_writer.proofs.put.put_isis.Statement.{statement}
 use Rattle.list_writer.proofs.put.put_isis.Tie as tie
-use Rattle.list_writer.proofs.put.put_isis.Reads as reads
-use Rattle.list_writer.proofs.put.put_isis.Lts as lts
-use Rattle.list_writer.proofs.put.put_bytes.Reads as put-bytes-reads
-use Rattle.list_writer.proofs.put.put_head.Reads as put-head-reads
-use Rattle.list_writer.proofs.put.put_zeros.Reads as put-zeros-reads
 
 add-padded : tie.Need-add-padded
 add-padded c = search needs

@@ -4,10 +4,6 @@ use Rattle.list_writer.proofs.Parts.{no-pin, pin-put}
 use borrow.Author.Needs.{needs}
 use Rattle.list_writer.proofs.put.put_pin.Statement.{statement}
 use Rattle.list_writer.proofs.put.put_pin.Tie as tie
-use Rattle.list_writer.proofs.put.put_pin.Reads as reads
-use Rattle.list_writer.proofs.put.put_pin.Lts as lts
-use Rattle.wire.proofs.put_u16.Reads as put-u16-reads
-use Rattle.wire.proofs.put_u32.Reads as put-u32-reads
 
 returns : tie.Need-returns
 returns c =

@@ -5,11 +5,6 @@ use Rattle.list_writer.proofs.Places.{put-append}
 use borrow.Author.Needs.{needs}
 use Rattle.list_writer.proofs.put.put_stop.Statement.{statement}
 use Rattle.list_writer.proofs.put.put_stop.Tie as tie
-use Rattle.list_writer.proofs.put.put_stop.Reads as reads
-use Rattle.list_writer.proofs.put.put_stop.Lts as lts
-use Rattle.list_writer.proofs.put.put_area.Reads as put-area-reads
-use Rattle.list_writer.proofs.put.put_pin.Reads as put-pin-reads
-use Rattle.list_writer.proofs.put.put_system.Reads as put-system-reads
 
 put-pin-requires : tie.Need-put-pin-requires
 put-pin-requires c κs = search needs

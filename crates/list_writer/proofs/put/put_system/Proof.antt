@@ -5,10 +5,6 @@ use Rattle.list_writer.proofs.Parts.{no-system, system-put}
 use borrow.Author.Needs.{needs}
 use Rattle.list_writer.proofs.put.put_system.Statement.{statement}
 use Rattle.list_writer.proofs.put.put_system.Tie as tie
-use Rattle.list_writer.proofs.put.put_system.Reads as reads
-use Rattle.list_writer.proofs.put.put_system.Lts as lts
-use Rattle.list_writer.proofs.put.put_head.Reads as put-head-reads
-use Rattle.wire.proofs.put_u32.Reads as put-u32-reads
 
 returns : tie.Need-returns
 returns c =

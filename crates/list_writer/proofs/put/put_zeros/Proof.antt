@@ -9,8 +9,6 @@ use lib.Seq.{paste, paste-zero}
 use Rattle.list_writer.proofs.Places.{zero-more, zeros-put}
 use Rattle.list_writer.proofs.put.put_zeros.Statement.{statement}
 use Rattle.list_writer.proofs.put.put_zeros.Tie as tie
-use Rattle.list_writer.proofs.put.put_zeros.Reads as reads
-use Rattle.list_writer.proofs.put.put_zeros.Lts as lts
 
 abbrev Inv-loop : tie.InvT-loop
 Inv-loop out₀ at n j₀ out j = (j ≤ n) × (out ≡ paste out₀ at (replicate n 0) j) × (length out ≡ length out₀)

@@ -10,8 +10,6 @@ use Rattle.model.specs.Lists.{any, among}
 use Rattle.list_writer.proofs.Scans.{any-hit, any-miss, any-end}
 use Rattle.list_writer.proofs.unwritable.comes_again.Statement.{statement}
 use Rattle.list_writer.proofs.unwritable.comes_again.Tie as tie
-use Rattle.list_writer.proofs.unwritable.comes_again.Reads as reads
-use Rattle.list_writer.proofs.unwritable.comes_again.Lts as lts
 
 abbrev Inv-loop : tie.InvT-loop
 Inv-loop indexes from x i₀ i = (i ≤ length indexes) × (any (eqb x) (drop i indexes) ≡ any (eqb x) (drop from indexes))

@@ -2,8 +2,6 @@
 use borrow.Author.Tests.{eq-eqb, ne-eqb, lt-ltb, le-ltb}
 use Rattle.list_writer.proofs.unwritable.counts_wrong.Statement.{statement}
 use Rattle.list_writer.proofs.unwritable.counts_wrong.Tie as tie
-use Rattle.list_writer.proofs.unwritable.counts_wrong.Reads as reads
-use Rattle.list_writer.proofs.unwritable.counts_wrong.Lts as lts
 
 returns : tie.Need-returns
 returns c = simp (eq-eqb _ _ (c .if1 .taken))

@@ -10,8 +10,6 @@ use lib.ListN.{length, getD}
 use Rattle.model.specs.WrittenList.{firstPinned}
 use Rattle.list_writer.proofs.unwritable.first_pinned.Statement.{statement}
 use Rattle.list_writer.proofs.unwritable.first_pinned.Tie as tie
-use Rattle.list_writer.proofs.unwritable.first_pinned.Reads as reads
-use Rattle.list_writer.proofs.unwritable.first_pinned.Lts as lts
 
 none-first : (s : List ℕ) → length s ≡ 0 → false ≡ firstPinned s
 none-first [] h = refl

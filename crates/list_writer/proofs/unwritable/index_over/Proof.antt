@@ -10,8 +10,6 @@ use Rattle.model.specs.Lists.{any}
 use Rattle.list_writer.proofs.Scans.{any-hit, any-miss, any-end}
 use Rattle.list_writer.proofs.unwritable.index_over.Statement.{statement}
 use Rattle.list_writer.proofs.unwritable.index_over.Tie as tie
-use Rattle.list_writer.proofs.unwritable.index_over.Reads as reads
-use Rattle.list_writer.proofs.unwritable.index_over.Lts as lts
 
 abbrev Inv-loop : tie.InvT-loop
 Inv-loop indexes count i₀ i = (i ≤ length indexes) × (any (λ (d : ℕ). leb count d) (drop i indexes) ≡ any (λ (d : ℕ). leb count d) indexes)

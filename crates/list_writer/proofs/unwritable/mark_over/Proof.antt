@@ -10,8 +10,6 @@ use Rattle.model.specs.Lists.{any}
 use Rattle.list_writer.proofs.Scans.{any-hit, any-miss, any-end}
 use Rattle.list_writer.proofs.unwritable.mark_over.Statement.{statement}
 use Rattle.list_writer.proofs.unwritable.mark_over.Tie as tie
-use Rattle.list_writer.proofs.unwritable.mark_over.Reads as reads
-use Rattle.list_writer.proofs.unwritable.mark_over.Lts as lts
 
 abbrev Inv-loop : tie.InvT-loop
 Inv-loop marks i₀ i = (i ≤ length marks) × (any (λ (m : ℕ). ltb 1 m) (drop i marks) ≡ any (λ (m : ℕ). ltb 1 m) marks)

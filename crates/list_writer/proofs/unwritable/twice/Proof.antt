@@ -9,9 +9,6 @@ use Rattle.model.specs.Lists.{allDifferent}
 use Rattle.list_writer.proofs.Scans.{different-hit, different-miss, different-end}
 use Rattle.list_writer.proofs.unwritable.twice.Statement.{statement}
 use Rattle.list_writer.proofs.unwritable.twice.Tie as tie
-use Rattle.list_writer.proofs.unwritable.twice.Reads as reads
-use Rattle.list_writer.proofs.unwritable.twice.Lts as lts
-use Rattle.list_writer.proofs.unwritable.comes_again.Reads as comes-again-reads
 
 abbrev Inv-loop : tie.InvT-loop
 Inv-loop indexes i₀ i = (i ≤ length indexes) × (allDifferent (drop i indexes) ≡ allDifferent indexes)

@@ -12,14 +12,6 @@ use Rattle.laws.proofs.Records.{length-domains}
 use borrow.Author.Needs.{needs}
 use Rattle.list_writer.proofs.unwritable.unwritable.Statement.{statement}
 use Rattle.list_writer.proofs.unwritable.unwritable.Tie as tie
-use Rattle.list_writer.proofs.unwritable.unwritable.Reads as reads
-use Rattle.list_writer.proofs.unwritable.unwritable.Lts as lts
-use Rattle.list_writer.proofs.unwritable.counts_wrong.Reads as counts-wrong-reads
-use Rattle.list_writer.proofs.unwritable.first_pinned.Reads as first-pinned-reads
-use Rattle.list_writer.proofs.unwritable.index_over.Reads as index-over-reads
-use Rattle.list_writer.proofs.unwritable.mark_over.Reads as mark-over-reads
-use Rattle.list_writer.proofs.unwritable.twice.Reads as twice-reads
-use Rattle.wire.proofs.u16_at.Reads as u16-at-reads
 
 first-holds : (a b c d e : Bool) → a ≡ true → true ≡ (a || b || c || d || e)
 first-holds a b c d e h = rw h refl

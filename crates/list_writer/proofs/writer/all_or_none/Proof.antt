@@ -2,8 +2,6 @@
 use borrow.Author.Tests.{le-leb, lt-leb}
 use Rattle.list_writer.proofs.writer.all_or_none.Statement.{statement}
 use Rattle.list_writer.proofs.writer.all_or_none.Tie as tie
-use Rattle.list_writer.proofs.writer.all_or_none.Reads as reads
-use Rattle.list_writer.proofs.writer.all_or_none.Lts as lts
 
 returns : tie.Need-returns
 returns c = simp (lt-leb _ _ (c .if1 .taken))

@@ -9,8 +9,6 @@ use Rattle.model.specs.Lists.{over}
 use Rattle.domain_list.proofs.Copies.{Copied, copied-none, copied-more}
 use Rattle.list_writer.proofs.writer.copy_start.Statement.{statement}
 use Rattle.list_writer.proofs.writer.copy_start.Tie as tie
-use Rattle.list_writer.proofs.writer.copy_start.Reads as reads
-use Rattle.list_writer.proofs.writer.copy_start.Lts as lts
 
 abbrev Inv-loop : tie.InvT-loop
 Inv-loop bytes n out₀ i₀ out i = (i ≤ n) × Copied bytes out₀ out i × (length out ≡ length out₀)

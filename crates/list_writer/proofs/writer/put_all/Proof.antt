@@ -13,11 +13,6 @@ use Rattle.list_writer.specs.Placed.{AreaRight}
 use Rattle.list_writer.proofs.Steps.{left, sequence, inside, area-right, stop-length, turn, nothing-left}
 use Rattle.list_writer.proofs.writer.put_all.Statement.{statement}
 use Rattle.list_writer.proofs.writer.put_all.Tie as tie
-use Rattle.list_writer.proofs.writer.put_all.Reads as reads
-use Rattle.list_writer.proofs.writer.put_all.Lts as lts
-use Rattle.list_writer.proofs.put.put_stop.Reads as put-stop-reads
-use Rattle.list_writer.proofs.writer.same_system.Reads as same-system-reads
-use Rattle.profile.proofs.domain.domain_at.Reads as domain-at-reads
 
 abbrev Inv-loop : tie.InvT-loop
 Inv-loop profile indexes marks nodes out₀ at₀ before₀ i₀ out at before i =

@@ -6,8 +6,6 @@ use borrow.Author.Needs.{needs}
 use Rattle.list_writer.specs.Writing.{systemAgain}
 use Rattle.list_writer.proofs.writer.same_system.Statement.{statement}
 use Rattle.list_writer.proofs.writer.same_system.Tie as tie
-use Rattle.list_writer.proofs.writer.same_system.Reads as reads
-use Rattle.list_writer.proofs.writer.same_system.Lts as lts
 
 later : (i before asn : ℕ) → (i ≡ 0 → ⊥) → eqb asn before ≡ systemAgain i before asn
 later zero before asn h = absurd (h refl)

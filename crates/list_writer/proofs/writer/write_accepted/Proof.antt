@@ -9,13 +9,6 @@ use Rattle.list_writer.proofs.Outcomes.{refused-sequence, fits, too-sma
 use borrow.Author.Needs.{needs}
 use Rattle.list_writer.proofs.writer.write_accepted.Statement.{statement}
 use Rattle.list_writer.proofs.writer.write_accepted.Tie as tie
-use Rattle.list_writer.proofs.writer.write_accepted.Reads as reads
-use Rattle.list_writer.proofs.writer.write_accepted.Lts as lts
-use Rattle.list_writer.proofs.unwritable.unwritable.Reads as unwritable-reads
-use Rattle.list_writer.proofs.writer.all_or_none.Reads as all-or-none-reads
-use Rattle.list_writer.proofs.writer.copy_start.Reads as copy-start-reads
-use Rattle.list_writer.proofs.writer.put_all.Reads as put-all-reads
-use Rattle.list_writer.proofs.writer.refused.Reads as refused-reads
 
 -- past the first test the sequence can be written
 can-write : (c : tie.Else1)

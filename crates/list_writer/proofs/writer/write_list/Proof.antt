@@ -5,10 +5,6 @@ use denote.Ref.{now}
 use Rattle.list_writer.proofs.Outcomes.{refused-profile}
 use Rattle.list_writer.proofs.writer.write_list.Statement.{statement}
 use Rattle.list_writer.proofs.writer.write_list.Tie as tie
-use Rattle.list_writer.proofs.writer.write_list.Reads as reads
-use Rattle.list_writer.proofs.writer.write_list.Lts as lts
-use Rattle.list_writer.proofs.writer.write_accepted.Reads as write-accepted-reads
-use Rattle.profile.proofs.verdict_on.Reads as verdict-on-reads
 
 verdict-on-requires : tie.Need-verdict-on-requires
 verdict-on-requires c κs = search needs

@@ -1,0 +1,531 @@
+//! The rules for include lists through read_include: every small change to a
+//! few lists, every short list of a few subobjects, and lists made by hand at
+//! the edges of each rule. The library is held to the reference, and to what
+//! the rule says where a list was made for it.
+
+use reference::generate::Reading;
+use tests::by_hand::{domain, file};
+use tests::compare::Counts;
+use tests::lists::{
+    bare, buffers, entry, is_is, long_as, ospf, read, short_as, verdict, ReadInclude,
+};
+
+// Every small change to a few lists, and every short list.
+
+/// 0: 64496; 1 and 2: 64497 with OSPF areas 0 and 4; 3: 64498 with an IS-IS
+/// area; 4: 65536.
+fn five_domains() -> Vec<u8> {
+    let domains = [
+        domain(64496, 0, &[]),
+        domain(64497, 1, &[0, 0, 0, 0]),
+        domain(64497, 1, &[0, 0, 0, 4]),
+        domain(64498, 2, &[0x49, 0, 1]),
+        domain(65536, 0, &[]),
+    ];
+    file(0, &domains, &[])
+}
+
+/// Lists for `five_domains` with each type of subobject, the domain they start
+/// in, and what they mean.
+fn few_lists() -> Vec<(u16, Vec<u8>, Reading)> {
+    let three = is_is(&[0x49, 0, 1]);
+    let across = [
+        entry(0x0102_0304),
+        short_as(64496),
+        long_as(64497),
+        ospf(4),
+        ospf(0),
+        entry(0),
+        short_as(64498),
+        three.clone(),
+        long_as(65536),
+    ];
+    let constrained = vec![
+        (0, None),
+        (2, Some(0x0102_0304)),
+        (1, None),
+        (3, Some(0)),
+        (4, None),
+    ];
+    let from_inside = [ospf(4), entry(u32::MAX), short_as(64498), three.clone()];
+    let at_the_end = vec![(1, None), (2, None), (3, Some(u32::MAX))];
+    let comes_back = [three, long_as(64498), short_as(64496), long_as(64498)];
+    vec![
+        (0, across.concat(), Ok(constrained)),
+        (1, from_inside.concat(), Ok(at_the_end)),
+        (3, comes_back.concat(), Err((30, 20))),
+        (2, Vec::new(), bare([2])),
+    ]
+}
+
+#[test]
+fn any_byte_of_a_few_lists_changed_to_any_other() {
+    let profile = five_domains();
+    for (ingress, list, expected) in few_lists() {
+        assert_eq!(read(&profile, ingress, &list, ingress), expected);
+        for at in 0..list.len() {
+            let mut changed = list.clone();
+            for value in 0..=255 {
+                changed[at] = value;
+                let which = format_args!("from {ingress}, byte {at} set to {value}");
+                _ = read(&profile, ingress, &changed, which);
+            }
+        }
+    }
+}
+
+#[test]
+fn a_few_lists_cut_and_filled_up_anywhere() {
+    let profile = five_domains();
+    for (ingress, list, _) in few_lists() {
+        for length in 0..=list.len() {
+            for after in [&[][..], &[0], &[1, 8], &[32, 4, 0xFB], &[0x55; 9]] {
+                let changed = [&list[..length], after].concat();
+                let which = format_args!("from {ingress}, {length} bytes and {after:?}");
+                _ = read(&profile, ingress, &changed, which);
+            }
+        }
+    }
+}
+
+/// Every list of up to five subobjects out of ten.
+#[test]
+fn every_short_list_of_ten_subobjects() {
+    let pieces = [
+        short_as(64496),
+        long_as(64497),
+        short_as(64498),
+        long_as(65536),
+        long_as(9),
+        ospf(0),
+        ospf(4),
+        is_is(&[0x49, 0, 1]),
+        entry(7),
+        entry(0),
+    ];
+    let profile = five_domains();
+    let mut counts = Counts::default();
+    for ingress in [0, 1, 3] {
+        for length in 0..=5 {
+            for code in 0..pieces.len().pow(length) {
+                let digit = |i| code / pieces.len().pow(i) % pieces.len();
+                let list: Vec<u8> = (0..length).flat_map(|i| pieces[digit(i)].clone()).collect();
+                let which = format_args!("from {ingress}, {length} subobjects, {code}");
+                counts.add(verdict(&read(&profile, ingress, &list, which)));
+            }
+        }
+    }
+    counts.cover("read_include, short lists", &[0, 28, 29, 30, 32]);
+}
+
+// The edges of each rule on form.
+
+#[test]
+fn every_first_and_second_byte() {
+    let profile = five_domains();
+    let mut list = [0; 24];
+    list[2] = 3;
+    for first in 0..=255 {
+        for second in 0..=255 {
+            list[..2].copy_from_slice(&[first, second]);
+            _ = read(&profile, 0, &list, format_args!("{first}, {second}"));
+        }
+    }
+}
+
+#[test]
+fn every_length_and_area_length_of_an_is_is_area() {
+    let profile = five_domains();
+    let mut counts = Counts::default();
+    for length in 0..=255 {
+        for area_length in 0..=255 {
+            for whole in [4, 8, 12, 16, 20, 24] {
+                let mut list = vec![0; whole];
+                list[..4].copy_from_slice(&[7, length, area_length, 0xFF]);
+                let which = format_args!("7, {length}, {area_length} of {whole} bytes");
+                counts.add(verdict(&read(&profile, 3, &list, which)));
+            }
+        }
+    }
+    counts.cover("read_include, IS-IS lengths", &[23, 24, 25, 26, 28]);
+}
+
+/// Padding is zero, whatever the byte that is ignored.
+#[test]
+fn every_is_is_length_with_good_and_bad_padding() {
+    for area_length in 1..=13 {
+        let area = &[0x49, 0, 2, 0, 3, 0, 4, 0, 5, 0, 6, 0, 7][..area_length];
+        let domains = [domain(64496, 0, &[]), domain(64497, 2, area)];
+        let profile = file(0, &domains, &[]);
+        let list = [short_as(64497), is_is(area)].concat();
+        let end = 8 + area_length.div_ceil(4) * 4;
+        assert_eq!(list.len(), end);
+        for at in 8 + area_length..end {
+            for value in 0..=255 {
+                let mut padded = list.clone();
+                padded[at] = value;
+                padded[7] = value;
+                let which = format!("area of {area_length}, byte {at} is {value}");
+                let expected = if value == 0 {
+                    bare([0, 1])
+                } else {
+                    Err((26, 4))
+                };
+                assert_eq!(read(&profile, 0, &padded, &which), expected, "{which}");
+            }
+        }
+        for ignored in 0..=255 {
+            let mut list = list.clone();
+            list[7] = ignored;
+            let which = format!("area of {area_length}, ignored {ignored}");
+            assert_eq!(read(&profile, 0, &list, &which), bare([0, 1]), "{which}");
+        }
+    }
+}
+
+#[test]
+fn order_of_checks_within_a_subobject() {
+    for (wrong, number) in [
+        (&[1, 8, 0][..], 23), // under 4 left, whatever they are
+        (&[0x7F, 0, 0], 23),
+        (&[0xFF, 0, 0, 0], 24), // type before L
+        (&[0x88, 8, 0, 0], 24),
+        (&[0x87, 8, 14, 0], 27), // L before area length
+        (&[0x85, 0, 0, 0], 27),  // and before length
+        (&[0xA0, 8, 0, 0], 27),
+        (&[7, 99, 0, 0], 26), // area length before length
+        (&[7, 20, 14, 0], 26),
+        (&[7, 12, 3, 0], 25), // length before past the end
+        (&[7, 8, 5, 0, 1, 1, 1, 1], 25),
+        (&[1, 4, 0, 0], 25),
+        (&[32, 8, 0, 0], 25),
+        (&[5, 8, 0, 0], 23),           // past the end
+        (&[1, 8, 0, 0, 0, 0, 33], 23), // past the end before prefix length
+        (&[7, 8, 1, 0, 1, 1, 1], 23),  // past the end before padding
+        (&[1, 8, 0, 0, 0, 0, 31, 0], 26),
+        (&[7, 8, 3, 0, 0x49, 0, 1, 1], 26),
+    ] {
+        let profile = five_domains();
+        let alone = read(&profile, 0, wrong, "alone");
+        assert_eq!(alone, Err((number, 0)), "{wrong:?}");
+        let later = read(&profile, 0, &[&long_as(64496), wrong].concat(), "later");
+        assert_eq!(later, Err((number, 8)), "{wrong:?}");
+    }
+}
+
+#[test]
+fn ignored_bytes_are_not_looked_at() {
+    let list = [
+        &[1, 8, 1, 2, 3, 4, 32, 0xFF][..],
+        &[5, 8, 0xFF, 0xFF, 0, 0, 0xFB, 0xF1],
+        &[6, 8, 0xFF, 0xFF, 0, 0, 0, 4],
+        &[32, 4, 0xFB, 0xF2],
+        &[7, 8, 3, 0xFF, 0x49, 0, 1, 0],
+    ];
+    let reading = read(&five_domains(), 0, &list.concat(), "ignored bytes set");
+    let expected = vec![(0, None), (2, Some(0x0102_0304)), (3, None)];
+    assert_eq!(reading, Ok(expected));
+}
+
+/// A list of subobjects that add nothing, cut to every length.
+#[test]
+fn every_length_of_a_list() {
+    let area = [0x49, 1, 2, 3, 4, 5, 6, 7, 8, 9, 10, 11, 12];
+    let profile = file(0, &[domain(64500, 2, &area)], &[]);
+    let round = [
+        short_as(64500),
+        is_is(&area),
+        long_as(64500),
+        short_as(64500),
+    ];
+    // The rounds are 36 bytes long; the subobjects of each start at these.
+    let starts = [0, 4, 24, 32];
+    let list = round.concat().repeat(34);
+    for length in 0..=1_200 {
+        let last = starts.iter().rfind(|&&start| start <= length % 36);
+        let cut = length % 36 - last.expect("0 is a start");
+        let expected = match length {
+            1025.. => Err((22, 0)),
+            _ if cut == 0 => bare([0]),
+            _ => Err((23, (length - cut) as u32)),
+        };
+        let reading = read(&profile, 0, &list[..length], length);
+        assert_eq!(reading, expected, "{length} bytes");
+    }
+}
+
+/// What is wrong at one place of a list.
+struct Fault {
+    number: u32,
+    /// What goes before, from the domain of AS 100.
+    head: Vec<u8>,
+    /// The AS that one is in after that.
+    here: u16,
+    wrong: Vec<u8>,
+    /// Where the refused subobject begins in `wrong`.
+    at: usize,
+    /// What follows; never looked at.
+    tail: Vec<u8>,
+}
+
+fn faults() -> Vec<Fault> {
+    let form = |number, wrong: &[u8], tail: &[u8]| Fault {
+        number,
+        head: entry(1),
+        here: 100,
+        wrong: wrong.to_vec(),
+        at: 0,
+        tail: tail.to_vec(),
+    };
+    let meaning = |number, head: Vec<u8>, here, wrong: &[Vec<u8>]| Fault {
+        number,
+        head,
+        here,
+        wrong: wrong.concat(),
+        at: wrong[..wrong.len() - 1].iter().map(Vec::len).sum(),
+        tail: [entry(1), entry(2), short_as(9)].concat(),
+    };
+    let fifteen = || (101..=115).flat_map(short_as).collect();
+    let left_over = Fault {
+        tail: [short_as(100), short_as(100)].concat(),
+        ..meaning(32, Vec::new(), 100, &[entry(7)])
+    };
+    vec![
+        form(23, &[5, 8, 0], &[]),
+        form(23, &long_as(100)[..7], &[]),
+        form(24, &[33, 4, 0, 100], &[0xFF; 5]),
+        form(25, &[5, 4, 0, 0], &[0xFF; 5]),
+        form(26, &[7, 8, 14, 0], &[0xFF; 5]),
+        form(26, &[1, 8, 0, 0, 0, 0, 31, 0], &[0xFF; 5]),
+        form(26, &[7, 8, 3, 0, 0x49, 0, 1, 1], &[0xFF; 5]),
+        form(27, &[0xA0, 4, 0, 100], &[0xFF; 5]),
+        meaning(28, entry(1), 100, &[short_as(9)]),
+        meaning(28, entry(1), 100, &[long_as(9), ospf(0)]),
+        meaning(28, entry(1), 100, &[ospf(0)]),
+        meaning(29, entry(1), 100, &[long_as(200)]),
+        meaning(30, short_as(101), 101, &[short_as(100)]),
+        meaning(31, fifteen(), 115, &[short_as(116)]),
+        meaning(31, fifteen(), 115, &[short_as(200), ospf(4)]),
+        meaning(32, entry(7), 100, &[entry(7)]),
+        left_over,
+    ]
+}
+
+/// Each fault after none, one, two and more subobjects that add nothing, until
+/// the list is full.
+#[test]
+fn each_refusal_at_each_offset() {
+    let alone = (100..=119).map(|as_number| domain(as_number, 0, &[]));
+    let areas = [0, 4].map(|area| domain(200, 1, &[0, 0, 0, area]));
+    let domains: Vec<_> = alone.chain(areas).collect();
+    let profile = file(1, &domains, &[]);
+    let mut counts = Counts::default();
+    for fault in faults() {
+        let around = fault.head.len() + fault.wrong.len() + fault.tail.len();
+        for before in 0..=(1024 - around) / 4 {
+            let nothing = short_as(fault.here).repeat(before);
+            let list = [&fault.head, &nothing, &fault.wrong, &fault.tail];
+            let offset = fault.head.len() + nothing.len() + fault.at;
+            let expected = (fault.number, offset as u32);
+            let which = format!("{expected:?}");
+            let reading = read(&profile, 0, &list.map(Vec::as_slice).concat(), &which);
+            assert_eq!(reading, Err(expected));
+            counts.add(expected);
+        }
+    }
+    let possible: Vec<u32> = (23..=32).collect();
+    counts.cover("read_include, each refusal at each offset", &possible);
+    for number in possible {
+        assert!(counts.places(number) >= 230, "{number}");
+    }
+}
+
+// The edges of each rule on meaning.
+
+#[test]
+fn every_ingress() {
+    let profile = five_domains();
+    for ingress in 0..=u16::MAX {
+        let expected = if ingress < 5 {
+            bare([ingress])
+        } else {
+            Err((20, 0))
+        };
+        assert_eq!(read(&profile, ingress, &[], ingress), expected, "{ingress}");
+    }
+}
+
+#[test]
+fn every_as_of_two_bytes() {
+    // The last has two low bytes that no other has.
+    let numbers = [0, 1, 255, 256, 257, 23456, 65_535, 0x0001_0200];
+    let profile = file(1, &numbers.map(|as_number| domain(as_number, 0, &[])), &[]);
+    for as_number in 0..=u16::MAX {
+        let known = numbers.iter().position(|&known| known == as_number.into());
+        let expected = match known {
+            Some(0) => bare([0]),
+            Some(index) => bare([0, index as u16]),
+            None => Err((28, 0)),
+        };
+        for list in [short_as(as_number), long_as(as_number.into())] {
+            assert_eq!(read(&profile, 0, &list, as_number), expected, "{list:?}");
+        }
+    }
+}
+
+/// Areas that differ in one byte, in length alone or in kind alone, in three AS
+/// whose numbers differ in one byte: every domain named from every other.
+#[test]
+fn every_domain_is_found_among_the_64() {
+    let mut areas: Vec<(u8, Vec<u8>)> = (1..=13).map(|n| (2, vec![0; n])).collect();
+    areas.extend([1, 2, 4].map(|area| (1, vec![0, 0, 0, area])));
+    areas.extend([1, 2, 4].map(|area| (2, vec![0, 0, 0, area])));
+    areas.push((1, vec![0, 0, 0, 0]));
+    areas.push((2, vec![0, 0, 0, 0, 0, 0, 0, 0, 0, 0, 0, 0, 1]));
+    let of = |as_number: u32| {
+        let with = move |(kind, area): &(u8, Vec<u8>)| (as_number, *kind, area.clone());
+        areas.iter().map(with)
+    };
+    let mut domains: Vec<_> = [0x0001_0203, 0x0001_0204, 0x0101_0203]
+        .into_iter()
+        .flat_map(of)
+        .chain([(1, 0, Vec::new())])
+        .collect();
+    domains.sort_by_key(|(as_number, kind, area)| domain(*as_number, *kind, area));
+    let record = |(as_number, kind, area): &(u32, u8, Vec<u8>)| domain(*as_number, *kind, area);
+    let records: Vec<_> = domains.iter().map(record).collect();
+    assert_eq!(records.len(), 64);
+    let profile = file(1, &records, &[]);
+    for ingress in 0..64u16 {
+        for (named, (as_number, kind, area)) in (0..).zip(&domains) {
+            let area = match kind {
+                0 => Vec::new(),
+                1 => [&[6, 8, 0, 0], &area[..]].concat(),
+                _ => is_is(area),
+            };
+            let list = [long_as(*as_number), area].concat();
+            let expected = if named == ingress {
+                bare([named])
+            } else {
+                bare([ingress, named])
+            };
+            let which = format!("{ingress} to {named}");
+            assert_eq!(read(&profile, ingress, &list, &which), expected, "{which}");
+        }
+    }
+}
+
+/// Sequences of 1 to 17 domains of one AS and of many.
+#[test]
+fn sequences_of_1_to_17_domains() {
+    let areas: Vec<_> = (0..20).map(|i| domain(100, 1, &[0, 0, 0, i])).collect();
+    let many: Vec<_> = (0..20).map(|i| domain(100 + i, 0, &[])).collect();
+    let name_area = |i: u16| ospf(i.into());
+    let name_as = |i: u16| short_as(100 + i);
+    sequences(&file(1, &areas, &[]), name_area);
+    sequences(&file(1, &many, &[]), name_as);
+}
+
+fn sequences(profile: &[u8], name: impl Fn(u16) -> Vec<u8>) {
+    for count in 1..=17 {
+        for first in [0, 2, 19] {
+            let route: Vec<u16> = (0..count).map(|i| (first + 3 * i) % 20).collect();
+            let named: Vec<_> = route[1..].iter().map(|&index| name(index)).collect();
+            let list = named.concat();
+            let which = format!("{route:?}");
+            let (_, before_last) = named.split_last().unwrap_or((&list, &[]));
+            let expected = match count {
+                17 => Err((31, before_last.concat().len() as u32)),
+                _ => bare(route.clone()),
+            };
+            assert_eq!(read(profile, route[0], &list, &which), expected, "{which}");
+            if count < 17 {
+                then_once_more(profile, &route, &list, &name);
+            }
+        }
+    }
+}
+
+/// After a sequence: its last domain adds nothing, an earlier one comes back
+/// even where there is place for no other, and one that isn't there is told
+/// before that.
+fn then_once_more(profile: &[u8], route: &[u16], list: &[u8], name: impl Fn(u16) -> Vec<u8>) {
+    let offset = list.len() as u32;
+    let then = |index| read(profile, route[0], &[list, &name(index)].concat(), index);
+    let (last, earlier) = route.split_last().expect("a sequence isn't empty");
+    assert_eq!(then(*last), bare(route.to_vec()));
+    for &index in earlier {
+        assert_eq!(then(index), Err((30, offset)), "{route:?}, then {index}");
+    }
+    assert_eq!(then(77), Err((28, offset)), "{route:?}, then no domain");
+}
+
+/// An entry constraint before each domain of a sequence, and up to five names
+/// between them that add nothing.
+#[test]
+fn an_entry_constraint_waits_over_what_adds_nothing() {
+    let areas: Vec<_> = (0..16).map(|i| domain(64496, 1, &[0, 0, 0, i])).collect();
+    let profile = file(0, &areas, &[]);
+    let again = |here: u16, names: usize| -> Vec<u8> {
+        let both = [long_as(64496), ospf(here.into())].concat();
+        let either = [ospf(here.into()), both];
+        (0..names).flat_map(|i| either[i % 2].clone()).collect()
+    };
+    for constrained in 1..16 {
+        for names in 0..=5 {
+            for node in [0, 1, 0x0102_0304, u32::MAX] {
+                let mut list = Vec::new();
+                let mut expected = vec![(0, None)];
+                for to in 1..16 {
+                    let mut pin = None;
+                    if to == constrained {
+                        list.extend([entry(node), again(to - 1, names)].concat());
+                        pin = Some(node);
+                    }
+                    list.extend(ospf(to.into()));
+                    expected.push((to, pin));
+                }
+                let which = format!("{node:08X} waits over {names} for {constrained}");
+                assert_eq!(read(&profile, 0, &list, &which), Ok(expected), "{which}");
+                // A second one, while the first waits, also across them.
+                let before: usize = 8 * usize::from(constrained - 1);
+                let waits = 8 + again(constrained - 1, names).len();
+                let second = before + waits;
+                list.splice(second..second, entry(node));
+                let expected = Err((32, second as u32));
+                assert_eq!(read(&profile, 0, &list, &which), expected, "{which}");
+            }
+        }
+    }
+}
+
+/// Each thing wrong is told before what the checks after it would find.
+#[test]
+fn checks_come_in_order() {
+    let (profile, mut damaged) = (five_domains(), five_domains());
+    damaged[12 + 20 + 4] = 3;
+    let unknown_and_left_over = [entry(7), long_as(9)].concat();
+    let malformed = [&unknown_and_left_over, &[0; 8][..]].concat();
+    let too_long = [&malformed, &[0; 1009][..]].concat();
+    let left_over = [entry(7), long_as(64496)].concat();
+    let fine = [entry(7), long_as(65536)].concat();
+    for (profile, ingress, list, capacity, expected) in [
+        (&damaged, 5, &too_long, 0, Err((14, 1))),
+        (&profile, 5, &too_long, 0, Err((20, 0))),
+        (&profile, 0, &too_long, 0, Err((22, 0))),
+        (&profile, 0, &malformed, 0, Err((24, 16))),
+        (&profile, 0, &unknown_and_left_over, 0, Err((28, 8))),
+        (&profile, 0, &left_over, 0, Err((32, 0))),
+        (&profile, 0, &fine, 0, Err((34, 0))),
+        (&profile, 0, &fine, 2, Ok(vec![(0, None), (4, Some(7))])),
+    ] {
+        let reading = ReadInclude {
+            profile,
+            ingress,
+            include: list,
+            buffers: buffers([capacity; 3]),
+        }
+        .read(format_args!("{expected:?}"));
+        assert_eq!(reading, expected);
+    }
+}
