@@ -62,7 +62,7 @@ static size_t write_list(uint8_t *out, size_t capacity)
 
 int main(void)
 {
-    uint8_t written[568];
+    uint8_t written[576];
     read_list(list, sizeof list);
     read_list(list, 8); /* AS 64501 alone, which has two domains */
     read_list(written, write_list(written, sizeof written));

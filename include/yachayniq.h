@@ -117,7 +117,7 @@ uint32_t yq_read_include(const uint8_t *profile, size_t profile_count,
  *   pins     the node that the domain is to be entered through, as a number
  *            (192.0.2.1 is 0xC0000201); not looked at where `pinned` is 0
  *
- * The list is written to the start of `out`. It has at most 568 bytes.
+ * The list is written to the start of `out`. It has at most 576 bytes.
  *
  * Returns the first of these, in the order in which the checks are made:
  *

@@ -72,5 +72,6 @@ module _ (d : Domain) (s : List ℕ) (k start n : ℕ) where
   other-length e withinA withinS apart = rw (eq-eqb (d .kind) k e) (same-apart (d .area) s (d .length) start n withinA withinS apart)
 
   pub by-bytes
-      : d .kind ≡ k → d .length ≡ n → hasArea (record { kind = k; bytes = part s start n }) d ≡ same (take n (d .area)) (part s start n)
-  by-bytes e l = rw (eq-eqb (d .kind) k e) (ap (λ (m : ℕ). same (take m (d .area)) (part s start n)) l)
+      : {r : Bool} → d .kind ≡ k → d .length ≡ n → r ≡ same (take n (d .area)) (part s start n)
+      → r ≡ hasArea (record { kind = k; bytes = part s start n }) d
+  by-bytes e l r = rw (eq-eqb (d .kind) k e, l) r

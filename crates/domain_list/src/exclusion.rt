@@ -60,6 +60,7 @@ fn takes_domain(list: &[u8], named: Named, d: Domain) -> bool
     }
 }
 
+// The exclude list takes the domain away.
 pub fn excludes_domain(list: &[u8], d: Domain) -> bool
     requires { ⌜ (formVerdict Exclude (now list) ≡ Pass) × (d .length ≤ 13) ⌝ }
     ensures { λ r. ⌜ r ≡ excludedDomain (subobjects (now (list .entry))) d ⌝ }
@@ -76,6 +77,7 @@ pub fn excludes_domain(list: &[u8], d: Domain) -> bool
     false
 }
 
+// The exclude list takes the node away.
 pub fn excludes_node(list: &[u8], node: u32) -> bool
     requires { ⌜ formVerdict Exclude (now list) ≡ Pass ⌝ }
     ensures { λ r. ⌜ r ≡ excludedNode (subobjects (now (list .entry))) node ⌝ }

@@ -8,6 +8,7 @@ use crate::subobject::wide;
 use model::ListKind;
 use model::Verdict;
 
+// The first subobject whose form is wrong refuses the list.
 pub fn form(kind: ListKind, list: &[u8]) -> Verdict
     requires { ⌜ length (now list) ≤ 1024 ⌝ }
     ensures { λ r. ⌜ r ≡ formVerdict kind (now (list .entry)) ⌝ }

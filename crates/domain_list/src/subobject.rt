@@ -173,6 +173,7 @@ pub fn form_at(kind: ListKind, list: &[u8], at: usize) -> Verdict
     let first = list[at];
     let t = first % 128;
     let n = wide(list[at + 1]);
+    let size = n as u32;
     let area = list[at + 2];
     let wanted = length_of(t, area);
     if wanted == 0 {
@@ -184,7 +185,7 @@ pub fn form_at(kind: ListKind, list: &[u8], at: usize) -> Verdict
     if area_wrong(t, area) {
         return refuse(26, at);
     }
-    if n as u32 != wanted {
+    if size != wanted {
         return refuse(25, at);
     }
     if left < n {

@@ -192,6 +192,10 @@ module _ (k : ListKind) (s : List ℕ) (at : ℕ) (h : at < length s) where
     pub right-here : subobjectVerdict k s at ≡ Pass
     right-here = both .0
 
+    -- the next offset is inside the list or its end, so the walk ends exactly there
+    pub next-inside : at + lengthAt s at ≤ length s
+    next-inside = (right-subobject k s at right-here) .whole
+
     pub right-next : formLeft k s (at + lengthAt s at) ≡ Pass
     right-next = both .1
 

@@ -31,8 +31,8 @@ returns-3 : tie.Need-returns-3
 returns-3 c =
     let a = c .before .before .before .before .before .before .before .args in
     let w = c .before .before .before .wide .ensures .0 in
-    c .same-bytes .ensures
-    ∙ sym (by-bytes (a .d) (a .list .now) (a .kind) (a .start) (a .count) (c .before .before .before .before .if1 .left) (sym w ∙ c .before .before .if2 .left))
+    by-bytes (a .d) (a .list .now) (a .kind) (a .start) (a .count) (c .before .before .before .before .if1 .left) (sym w ∙ c .before .before .if2 .left)
+    (c .same-bytes .ensures)
 
 pub has-area-spec : {M : Type 1} → statement M
 has-area-spec = tie.close (tie.spec returns wide-requires returns-2 same-bytes-requires returns-3)

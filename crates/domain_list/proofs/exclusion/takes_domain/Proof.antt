@@ -1,5 +1,5 @@
 -- `exclusion::takes_domain` meets its contract: in each arm what is named is the arm's, and an area's bytes lie inside the list.
-use mathlib.Core.Path.{sym, ap, subst, _∙_}
+use mathlib.Core.Path.{_≡_, sym, ap, subst, subst⁻¹}
 use Rattle.model.specs.Exclusion.{takesDomain}
 use Rattle.domain_list.specs.declared.subobject.Named.{Named}
 use Rattle.domain_list.specs.Items.{namedOf, AreaInside}
@@ -33,7 +33,7 @@ returns-2 c =
 returns-3 : tie.Need-returns-3
 returns-3 c =
     let a = c .before .before .before .before .before .args in
-    c .has-area .ensures ∙ sym (ap (λ (n : Named). takesDomain (a .d) (namedOf (a .list .now) n)) (c .before .before .named2 .given .1))
+    subst⁻¹ (λ (n : Named). c .has-area .result ≡ takesDomain (a .d) (namedOf (a .list .now) n)) (c .before .before .named2 .given .1) (c .has-area .ensures)
 
 pub takes-domain-spec : {M : Type 1} → statement M
 takes-domain-spec =

@@ -69,6 +69,9 @@ shared-slice-read-wide c = search needs
 wide-requires : tie.Need-wide-requires
 wide-requires c κs = search needs
 
+cast-size : tie.Need-cast-size
+cast-size c = search needs
+
 add-area : tie.Need-add-area
 add-area c = search needs
 
@@ -117,9 +120,6 @@ returns-4 c =
     c .refuse4 .ensures
     ∙ sym
     (bad-area (a .kind) s (a .at) (four (c .before .before .before .before .before .before .before .before .before .before .before)) (is-known (c .before .before .before .before .before)) (unmarked (c .before .before .before)) (sym (c .before .before .area-wrong .ensures) ∙ c .before .if4 .taken))
-
-cast-if5 : tie.Need-cast-if5
-cast-if5 c = search needs
 
 refuse-requires-5 : tie.Need-refuse-requires-5
 refuse-requires-5 c κs = search needs
@@ -193,6 +193,7 @@ form-at-spec =
     add-wide
     shared-slice-read-wide
     wide-requires
+    cast-size
     add-area
     shared-slice-read-area
     length-of-requires
@@ -204,7 +205,6 @@ form-at-spec =
     area-wrong-requires
     refuse-requires-4
     returns-4
-    cast-if5
     refuse-requires-5
     returns-5
     refuse-requires-6
