@@ -55,7 +55,8 @@ regroup true e k f r = refl
 regroup false true k f r = refl
 regroup false false k f r = refl
 
-part-cons : (s : List ℕ) (at n : ℕ) → at < length s → part s at (suc n) ≡ getD s at 0 ∷ part s (suc at) n
+-- the first byte of a part
+pub part-cons : (s : List ℕ) (at n : ℕ) → at < length s → part s at (suc n) ≡ getD s at 0 ∷ part s (suc at) n
 part-cons s at n h = ap (take (suc n)) (drop-cons s at 0 h)
 
 -- n + m bytes are less than others where the number of the first n is, or is the same and the m after them are less

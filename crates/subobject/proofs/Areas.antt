@@ -6,7 +6,6 @@ use mathlib.Core.List.{List, [], _∷_}
 use Prim.Native.Nat.{ℕ, suc, _+_, _-_, _≤_, _<_}
 use lib.Dec.{eqb}
 use lib.ListN.{length, getD, take, drop, length-take, length-drop}
-use lib.Seq.{drop-cons}
 use native.Mathlib.Nat.{sub-self, sub-zero, add-zero, add-suc}
 use native.Mathlib.Omega.{arith}
 use borrow.Author.Tests.{eq-eqb, ne-eqb}
@@ -14,6 +13,7 @@ use Rattle.model.specs.declared.Domain.{Domain}
 use Rattle.model.specs.Lists.{same}
 use Rattle.model.specs.Bytes.{part}
 use Rattle.model.specs.Sequence.{hasArea}
+use Rattle.laws.proofs.Words.{part-cons}
 
 -- from place i on: the first n bytes of a, and the n bytes of s from `start` on
 abbrev pub sameFrom : List ℕ → List ℕ → ℕ → ℕ → ℕ → Bool
@@ -26,17 +26,13 @@ same-end a s start n = rw sub-self refl
 pub same-whole : (a s : List ℕ) (start n : ℕ) → sameFrom a s start n 0 ≡ same (take n a) (part s start n)
 same-whole a s start n = rw (sub-zero n, add-zero start) refl
 
--- the first byte of a part
-part-first : (s : List ℕ) (i m : ℕ) → i < length s → part s i (suc m) ≡ getD s i 0 ∷ part s (suc i) m
-part-first s i m h = ap (take (suc m)) (drop-cons s i 0 h)
-
 module _ (a s : List ℕ) (start n i : ℕ) (h : i < n) (withinA : n ≤ length a) (withinS : start + n ≤ length s) where
   same-step : sameFrom a s start n i ≡ (eqb (getD a i 0) (getD s (start + i) 0) && sameFrom a s start n (suc i))
   unfolding same
   same-step =
       let left : n - i ≡ suc (n - suc i) = omega arith in
       ap (λ (m : ℕ). same (part a i m) (part s (start + i) m)) left
-      ∙ ap₂ same (part-first a i (n - suc i) (omega arith)) (part-first s (start + i) (n - suc i) (omega arith))
+      ∙ ap₂ same (part-cons a i (n - suc i) (omega arith)) (part-cons s (start + i) (n - suc i) (omega arith))
       ∙ ap (λ (k : ℕ). eqb (getD a i 0) (getD s (start + i) 0) && same (part a (suc i) (n - suc i)) (part s k (n - suc i))) (sym (add-suc start i))
 
   pub same-hit : (getD a i 0 ≡ getD s (start + i) 0 → ⊥) → sameFrom a s start n i ≡ false

@@ -1,65 +1,102 @@
 -- The form of one subobject, check by check: which refusal it is once the checks before have passed. By putting the tests' values into the definition.
 use mathlib.Core.Path.{_≡_, refl, sym, ap, _∙_}
-use mathlib.Core.Bool.{Bool, true, false, not, _&&_, or-false}
+use mathlib.Core.Bool.{Bool, true, false, not, cond, _&&_, or-false}
 use mathlib.Core.List.{List}
-use Prim.Native.Nat.{ℕ, _+_, _-_, _≤_}
+use Prim.Native.Nat.{ℕ, zero, suc, _+_, _-_, _≤_, _<_}
 use native.Mathlib.Omega.{arith}
 use lib.Dec.{eqb, leb, ltb}
 use lib.ListN.{length, getD}
-use borrow.Author.Tests.{ne-eqb}
+use borrow.Author.Tests.{ne-eqb, lt-ltb, le-ltb}
 use Rattle.laws.proofs.Walk.{right-subobject}
 use Rattle.model.specs.declared.ListKind.{ListKind}
+use Rattle.model.specs.declared.Verdict.{Verdict}
 use Rattle.model.specs.declared.Verdict.the-variants.{Pass}
+use Rattle.model.specs.Verdict.{refuseIf, _andThen_}
 use Rattle.model.specs.Bytes.{number, part, allZero}
-use Rattle.model.specs.Subobject.{subobjectVerdict, known, lengthFits, topWrong, prefixWrong, paddingWrong, typeAt, topAt, lengthAt, areaLengthAt, roundedUp, namedAt, prefix, system, area}
-use Rattle.subobject.specs.Items.{fieldWrong, refusal, Readable, zeroFrom}
+use Rattle.model.specs.Subobject.{subobjectVerdict, lengthFits, topWrong, prefixWrong, paddingWrong, typeAt, topAt, lengthAt, areaLengthAt, roundedUp, namedAt, prefix, system, area}
+use Rattle.subobject.specs.Items.{headWrong, fieldWrong, refusal, Readable, zeroFrom}
 use Rattle.subobject.specs.Lengths.{lengthOf}
-use Rattle.subobject.proofs.LengthLaws.{fitting, length-1, length-5, length-6, length-7}
+use Rattle.subobject.proofs.LengthLaws.{known-length, fits-length, fitting, length-1, length-5, length-6, length-7}
 
-abbrev pub areaWrong : List ℕ → ℕ → Bool
-areaWrong s at = eqb (typeAt s at) 7 && not (leb 1 (areaLengthAt s at) && leb (areaLengthAt s at) 13)
+-- ---- the checks as the code makes them: those of the first three bytes together, as one number
+
+abbrev numbered : ℕ → ℕ → Verdict
+numbered zero at = Pass
+numbered (suc n) at = refusal (suc n) at
+
+told : (n at : ℕ) → (n ≡ 0 → ⊥) → numbered n at ≡ refusal n at
+told zero at d = absurd (d refl)
+told (suc n) at d = refl
+
+abbrev headOf : Bool → Bool → Bool → Bool → ℕ
+headOf z w a e = cond z 24 (cond w 27 (cond a 26 (cond e 0 25)))
+
+-- b too short, z no known type, w L set, a a wrong area length, e the right length, p past the end, f a wrong field
+by-head : (b z w a e p f : Bool) (at : ℕ)
+    → (refuseIf b 23 at andThen refuseIf (not (not z)) 24 at andThen refuseIf w 27 at andThen refuseIf a 26 at andThen refuseIf (not (not z && e)) 25 at andThen refuseIf p 23 at andThen refuseIf f 26 at)
+    ≡ (refuseIf b 23 at andThen numbered (headOf z w a e) at andThen refuseIf p 23 at andThen refuseIf f 26 at)
+by-head true z w a e p f at = refl
+by-head false true w a e p f at = refl
+by-head false false true a e p f at = refl
+by-head false false false true e p f at = refl
+by-head false false false false true p f at = refl
+by-head false false false false false p f at = refl
+
+head-zero : (z w a e : Bool) → headOf z w a e ≡ 0 → (not z && e) ≡ true
+head-zero true w a e q = absurd (omega arith)
+head-zero false true a e q = absurd (omega arith)
+head-zero false false true e q = absurd (omega arith)
+head-zero false false false true q = refl
+head-zero false false false false q = absurd (omega arith)
 
 module _ (k : ListKind) (s : List ℕ) (at : ℕ) where
-  pub short : ltb (length s) (at + 4) ≡ true → subobjectVerdict k s at ≡ refusal 23 at
-  unfolding subobjectVerdict
-  short e1 = rw e1 refl
+  abbrev pub head : ℕ
+  head = headWrong k (getD s at 0) (lengthAt s at) (areaLengthAt s at)
 
-  module _ (e1 : ltb (length s) (at + 4) ≡ false) where
-    pub unknown : known (typeAt s at) ≡ false → subobjectVerdict k s at ≡ refusal 24 at
-    unfolding subobjectVerdict
-    unknown e2 = rw (e1, e2) refl
+  -- the tests of the head
+  abbrev z : Bool
+  z = eqb (lengthOf (typeAt s at) (areaLengthAt s at)) 0
 
-    module _ (e2 : known (typeAt s at) ≡ true) where
-      pub marked : topWrong k (topAt s at) ≡ true → subobjectVerdict k s at ≡ refusal 27 at
-      unfolding subobjectVerdict
-      marked e3 = rw (e1, e2, e3) refl
+  abbrev w : Bool
+  w = topWrong k (topAt s at)
 
-      module _ (e3 : topWrong k (topAt s at) ≡ false) where
-        pub bad-area : areaWrong s at ≡ true → subobjectVerdict k s at ≡ refusal 26 at
-        unfolding subobjectVerdict
-        bad-area e4 = rw (e1, e2, e3, e4) refl
+  abbrev a : Bool
+  a = eqb (typeAt s at) 7 && not (leb 1 (areaLengthAt s at) && leb (areaLengthAt s at) 13)
 
-        module _ (e4 : areaWrong s at ≡ false) where
-          pub bad-length : lengthFits (typeAt s at) (areaLengthAt s at) (lengthAt s at) ≡ false → subobjectVerdict k s at ≡ refusal 25 at
-          unfolding subobjectVerdict
-          bad-length e5 = rw (e1, e2, e3, e4, e5) refl
+  abbrev e : Bool
+  e = eqb (lengthAt s at) (lengthOf (typeAt s at) (areaLengthAt s at))
 
-          module _ (e5 : lengthFits (typeAt s at) (areaLengthAt s at) (lengthAt s at) ≡ true) where
-            pub past-end : ltb (length s) (at + lengthAt s at) ≡ true → subobjectVerdict k s at ≡ refusal 23 at
-            unfolding subobjectVerdict
-            past-end e6 = rw (e1, e2, e3, e4, e5, e6) refl
+  judged
+      : subobjectVerdict k s at
+      ≡ (refuseIf (ltb (length s) (at + 4)) 23 at andThen numbered head at andThen refuseIf (ltb (length s) (at + lengthAt s at)) 23 at andThen refuseIf (fieldWrong k s at) 26 at)
+  unfolding subobjectVerdict headWrong
+  judged =
+      rw (fits-length (areaLengthAt s at) (lengthAt s at) (typeAt s at), known-length (areaLengthAt s at) (typeAt s at))
+      (by-head (ltb (length s) (at + 4)) z w a e (ltb (length s) (at + lengthAt s at)) (fieldWrong k s at) at)
 
-            module _ (e6 : ltb (length s) (at + lengthAt s at) ≡ false) where
-              pub bad-field : fieldWrong k s at ≡ true → subobjectVerdict k s at ≡ refusal 26 at
-              unfolding subobjectVerdict
-              bad-field e7 = rw (e1, e2, e3, e4, e5, e6, e7) refl
+  -- a right head says that the length is the type's
+  pub head-fits : head ≡ 0 → lengthFits (typeAt s at) (areaLengthAt s at) (lengthAt s at) ≡ true
+  unfolding headWrong
+  head-fits q = rw (fits-length (areaLengthAt s at) (lengthAt s at) (typeAt s at), known-length (areaLengthAt s at) (typeAt s at)) (head-zero z w a e q)
 
-              pub right : fieldWrong k s at ≡ false → subobjectVerdict k s at ≡ Pass
-              unfolding subobjectVerdict
-              right e7 = rw (e1, e2, e3, e4, e5, e6, e7) refl
+  -- which refusal it is once the checks before have passed
+  pub short : length s < at + 4 → subobjectVerdict k s at ≡ refusal 23 at
+  short h = judged ∙ (rw (lt-ltb (length s) (at + 4) h) refl)
+
+  module _ (long : at + 4 ≤ length s) where
+    pub bad-head : (head ≡ 0 → ⊥) → subobjectVerdict k s at ≡ refusal head at
+    bad-head d = judged ∙ (rw (le-ltb (length s) (at + 4) long, told head at d) refl)
+
+    module _ (fine : head ≡ 0) where
+      pub past-end : length s < at + lengthAt s at → subobjectVerdict k s at ≡ refusal 23 at
+      past-end h = judged ∙ (rw (le-ltb (length s) (at + 4) long, fine, lt-ltb (length s) (at + lengthAt s at) h) refl)
+
+      -- the last check decides
+      pub by-field : {f : Bool} → f ≡ fieldWrong k s at → at + lengthAt s at ≤ length s → subobjectVerdict k s at ≡ refuseIf f 26 at
+      by-field e h = judged ∙ (rw (le-ltb (length s) (at + 4) long, fine, le-ltb (length s) (at + lengthAt s at) h, ← e) refl)
 
 -- what a subobject that lies inside the list has room for
-module _ (s : List ℕ) (at : ℕ) (r : Readable s at) where
+module _ {s : List ℕ} {at : ℕ} (r : Readable s at) where
   -- its length, by its type
   long-by : (t : ℕ) → typeAt s at ≡ t → lengthAt s at ≡ lengthOf t (areaLengthAt s at)
   long-by t e = fitting (typeAt s at) (areaLengthAt s at) (lengthAt s at) (r .fits) ∙ ap (λ (u : ℕ). lengthOf u (areaLengthAt s at)) e

@@ -1,13 +1,16 @@
--- The code's three columns are the rows of the length table: one step of a scan, and how large the entries are. By the five places.
+-- The code's three columns are the rows of the length table: one step of a scan, by the five places, and how large the entries are, by a computed test.
 use mathlib.Core.Path.{_≡_, refl, sym}
+use mathlib.Core.Bool.{true}
 use mathlib.Core.List.{List, [], _∷_}
 use Prim.Native.Nat.{ℕ, zero, suc, _+_, _*_, _≤_, _<_}
 use native.Mathlib.Nat.{le-trans, mul-le-mul-right, one-mul}
-use borrow.Author.Tests.{eq-eqb, ne-eqb}
+use borrow.Author.Tests.{eq-eqb, ne-eqb, leb-true}
 use native.Mathlib.Omega.{arith}
-use lib.Dec.{eqb}
+use lib.Dec.{eqb, leb}
 use lib.ListN.{getD, drop}
+use Rattle.model.specs.Lists.{all}
 use Rattle.model.specs.Subobject.{lengthRules, roundedUp}
+use Rattle.laws.proofs.Tests.{and-both}
 use Rattle.subobject.specs.Lengths.{lengthIf, lengthIn}
 
 abbrev pub types : List ℕ
@@ -31,24 +34,20 @@ scan-step (suc (suc (suc zero))) h t a = refl
 scan-step (suc (suc (suc (suc zero)))) h t a = refl
 scan-step (suc (suc (suc (suc (suc i))))) h t a = absurd (omega arith)
 
-pub fixed-small : (i : ℕ) → i < 5 → getD fixed i 0 ≤ 8
-fixed-small zero h = omega arith
-fixed-small (suc zero) h = omega arith
-fixed-small (suc (suc zero)) h = omega arith
-fixed-small (suc (suc (suc zero))) h = omega arith
-fixed-small (suc (suc (suc (suc zero)))) h = omega arith
-fixed-small (suc (suc (suc (suc (suc i))))) h = absurd (omega arith)
+-- no entry of a list is over b where a test says so, and what lies past its end is 0
+small : (b : ℕ) (xs : List ℕ) → all (λ (x : ℕ). leb x b) xs ≡ true → (i : ℕ) → getD xs i 0 ≤ b
+unfolding all
+small b [] e i = omega arith
+small b (x ∷ xs) e zero = leb-true x b (and-both (leb x b) (all (λ (y : ℕ). leb y b) xs) e .0)
+small b (x ∷ xs) e (suc i) = small b xs (and-both (leb x b) (all (λ (y : ℕ). leb y b) xs) e .1) i
 
-pub withArea-small : (i : ℕ) → i < 5 → getD withArea i 0 ≤ 1
-withArea-small zero h = omega arith
-withArea-small (suc zero) h = omega arith
-withArea-small (suc (suc zero)) h = omega arith
-withArea-small (suc (suc (suc zero))) h = omega arith
-withArea-small (suc (suc (suc (suc zero)))) h = omega arith
-withArea-small (suc (suc (suc (suc (suc i))))) h = absurd (omega arith)
+pub fixed-small : (i : ℕ) → getD fixed i 0 ≤ 8
+unfolding all
+fixed-small = small 8 fixed refl
 
-pub product-small : (i x : ℕ) → i < 5 → x ≤ 260 → getD withArea i 0 * x ≤ 260
-product-small i x h k = le-trans (mul-le-mul-right x (withArea-small i h)) (rw one-mul k)
+pub product-small : (i x : ℕ) → x ≤ 260 → getD withArea i 0 * x ≤ 260
+unfolding all
+product-small i x k = le-trans (mul-le-mul-right x (small 1 withArea refl i)) (rw one-mul k)
 
 -- a row that fits gives the length; one that doesn't leaves it to the rest
 pub scan-hit

@@ -18,14 +18,12 @@ use denote.RattleType.{RattleType, owns}
 use denote.Laws.{Is}
 use denote.Plain.{uint-makes}
 use denote.Builtin.{u8, usize}
-use denote.Ref.{NamedLft}
 use denote.Signature.{namedLft}
 use denote.Slice.{sliceVal, ShrSlice}
 use denote.Steps.{owned}
 use denote.Struct.Declared.{Declared}
 use denote.Struct.Laws as LL
 use denote.Struct.Rest.{all-own, own-open, own-put}
-use denote.Struct.Values.{Values}
 use denote.Triple.Walked.{says}
 use Rattle.subobject.specs.declared.walk.Walk.{Walk}
 use Rattle.subobject.proofs.walk.Walk as T

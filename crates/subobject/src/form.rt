@@ -6,7 +6,7 @@ ghost use lib.Dec.{eqb, leb};
 ghost use mathlib.Core.Bool.{not, _&&_};
 ghost use Rattle.model.specs.Subobject.{roundedUp, formVerdict, subobjectVerdict, topWrong, prefixWrong};
 ghost use Rattle.subobject.specs.Lengths.{lengthOf};
-ghost use Rattle.subobject.specs.Items.{Readable, zeroFrom, fieldWrong, refusal};
+ghost use Rattle.subobject.specs.Items.{Readable, zeroFrom, headWrong, fieldWrong, refusal};
 use crate::item::next_at;
 use crate::item::wide;
 use model::ListKind;
@@ -125,7 +125,29 @@ pub fn refuse(number: u32, at: usize) -> Verdict
     })
 }
 
-// The form of the subobject at an offset, in document 01's order within a subobject.
+// What is wrong with a subobject's first three bytes, by the refusal's number in document 01's order, or 0.
+fn head_wrong(kind: ListKind, first: u8, n: u8, area: u8) -> u32
+    ensures { λ r. ⌜ r ≡ headWrong kind first n area ⌝ }
+{
+    let t = first % 128;
+    let size = n as u32;
+    let wanted = length_of(t, area);
+    if wanted == 0 {
+        return 24;
+    }
+    if top_wrong(kind, 128 <= first) {
+        return 27;
+    }
+    if area_wrong(t, area) {
+        return 26;
+    }
+    if size != wanted {
+        return 25;
+    }
+    0
+}
+
+// The form of the subobject at an offset.
 pub fn form_at(kind: ListKind, list: &[u8], at: usize) -> Verdict
     requires { ⌜ (at < length (now list)) × (length (now list) ≤ 1024) ⌝ }
     ensures { λ r. ⌜ r ≡ subobjectVerdict kind (now (list .entry)) at ⌝ }
@@ -134,25 +156,12 @@ pub fn form_at(kind: ListKind, list: &[u8], at: usize) -> Verdict
     if left < 4 {
         return refuse(23, at);
     }
-    let first = list[at];
-    let t = first % 128;
-    let n = wide(list[at + 1]);
-    let size = n as u32;
-    let area = list[at + 2];
-    let wanted = length_of(t, area);
-    if wanted == 0 {
-        return refuse(24, at);
+    let n = list[at + 1];
+    let wrong = head_wrong(kind, list[at], n, list[at + 2]);
+    if wrong != 0 {
+        return refuse(wrong, at);
     }
-    if top_wrong(kind, 128 <= first) {
-        return refuse(27, at);
-    }
-    if area_wrong(t, area) {
-        return refuse(26, at);
-    }
-    if size != wanted {
-        return refuse(25, at);
-    }
-    if left < n {
+    if left < wide(n) {
         return refuse(23, at);
     }
     if field_wrong(kind, list, at) {

@@ -1,12 +1,9 @@
 -- `form::all_zero` meets its contract. The loop's invariant: what is left from i on is zero just when the whole part is. The measure is what is left.
 use Prim.Native.Nat.{ℕ, _≤_, _-_}
 use mathlib.Core.Path.{_≡_, refl, sym, ap, _∙_}
-use mathlib.Core.Bool.{Bool}
 use native.Mathlib.Omega.{arith}
 use native.Mathlib.Numerals.{add-one}
 use borrow.Author.Needs.{needs}
-use lib.ListN.{length}
-use denote.Ref.{now}
 use Rattle.subobject.specs.Items.{zeroFrom}
 use Rattle.subobject.proofs.Zeros.{zero-end, zero-hit, zero-more}
 use Rattle.subobject.proofs.form.all_zero.Statement.{statement}

@@ -15,8 +15,7 @@ shared-slice-read-t c = search needs
 
 prefix-wrong-requires : tie.Need-prefix-wrong-requires
 prefix-wrong-requires c κs =
-    let a = c .before .before .before .args in
-    room-1 (a .list .now) (a .at) (c .before .before .before .pre) (c .if1 .taken)
+    room-1 (c .before .before .before .pre) (c .if1 .taken)
 
 returns : tie.Need-returns
 returns c =
@@ -52,9 +51,8 @@ add-all-zero c = search needs
 
 all-zero-requires : tie.Need-all-zero-requires
 all-zero-requires c κs =
-    let a = c .before .before .before .before .before .before .before .before .args in
     let pre = c .before .before .before .before .before .before .before .before .pre in
-    let n = padded (a .list .now) (a .at) pre (c .before .before .before .before .if2 .taken) in
+    let n = padded pre (c .before .before .before .before .if2 .taken) in
     let i = pre .inside in
     let w = c .before .before .wide .ensures in
     let v = c .wide2 .ensures in
@@ -67,7 +65,7 @@ returns-2 c =
     ap not (c .all-zero .ensures)
     ∙ ap (λ (x : ℕ). not (zeroFrom (a .list .now) (a .at + 4 + x) (a .at + c .before .wide2 .result))) (c .before .before .before .wide .ensures .0)
     ∙ ap (λ (x : ℕ). not (zeroFrom (a .list .now) (a .at + 4 + areaLengthAt (a .list .now) (a .at)) (a .at + x))) (c .before .wide2 .ensures .0)
-    ∙ padding (a .list .now) (a .at) (c .before .before .before .before .before .before .before .before .before .pre) e
+    ∙ padding (c .before .before .before .before .before .before .before .before .before .pre) e
     ∙ field-7 (a .kind) (a .list .now) (a .at) e
 
 returns-3 : tie.Need-returns-3

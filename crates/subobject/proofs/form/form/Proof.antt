@@ -1,5 +1,5 @@
 -- `form::form` meets its contract. The loop's invariant: the form of what is left from the offset on is that of the whole list. The measure is what is left.
-use Prim.Native.Nat.{ℕ, _+_, _-_, _≤_}
+use Prim.Native.Nat.{_-_, _≤_}
 use mathlib.Core.Path.{_≡_, sym, ap, _∙_}
 use native.Mathlib.Omega.{arith}
 use borrow.Author.Needs.{needs}

@@ -1,49 +1,27 @@
 -- `form::form_at` meets its contract: the tests that led to each `return` are the checks of `subobjectVerdict` in their order.
-use Prim.Native.Nat.{ℕ, _+_}
-use mathlib.Core.Path.{_≡_, refl, sym, ap, _∙_}
-use mathlib.Core.Bool.{Bool, true, false, not, _&&_}
+use Prim.Native.Nat.{ℕ, _+_, _≤_}
+use mathlib.Core.Path.{_≡_, sym, ap, _∙_}
 use native.Mathlib.Omega.{arith}
-use lib.Dec.{eqb, ltb}
 use lib.ListN.{length}
-use borrow.Author.Tests.{lt-ltb, le-ltb, ltb-false, eq-eqb, ne-eqb}
-use Rattle.model.specs.Subobject.{known, lengthFits, topWrong, typeAt, topAt, lengthAt, areaLengthAt}
-use Rattle.subobject.specs.Lengths.{lengthOf}
-use Rattle.subobject.proofs.LengthLaws.{known-length, fits-length}
-use Rattle.subobject.proofs.FormLaws.{areaWrong, short, unknown, marked, bad-area, bad-length, past-end, bad-field, right}
 use borrow.Author.Needs.{needs}
+use Rattle.model.specs.Subobject.{lengthAt}
+use Rattle.subobject.specs.Items.{refusal}
+use Rattle.subobject.proofs.FormLaws.{head, head-fits, short, bad-head, past-end, by-field}
 use Rattle.subobject.proofs.form.form_at.Statement.{statement}
 use Rattle.subobject.proofs.form.form_at.Tie as tie
 
 -- what the tests passed say, place by place
-four : (c : tie.Else1) → ltb (length (c .before .before .args .list .now)) (c .before .before .args .at + 4) ≡ false
-four c = le-ltb (length (c .before .before .args .list .now)) (c .before .before .args .at + 4) (omega arith)
+four : (c : tie.Else1) → c .before .before .args .at + 4 ≤ length (c .before .before .args .list .now)
+four c = omega arith
 
-is-known : (c : tie.Else2) → known (typeAt (c .before .before .before .before .before .before .before .before .args .list .now) (c .before .before .before .before .before .before .before .before .args .at)) ≡ true
-is-known c =
-    known-length (areaLengthAt (c .before .before .before .before .before .before .before .before .args .list .now) (c .before .before .before .before .before .before .before .before .args .at)) (typeAt (c .before .before .before .before .before .before .before .before .args .list .now) (c .before .before .before .before .before .before .before .before .args .at))
-    ∙ ap (λ (n : ℕ). not (eqb n 0)) (sym (c .before .length-of .ensures))
-    ∙ ap not (ne-eqb (c .before .length-of .result) 0 (c .if2 .left))
+right-head : (c : tie.Else2) → let a = c .before .before .before .before .before .before .before .args in head (a .kind) (a .list .now) (a .at) ≡ 0
+right-head c = sym (c .before .head-wrong .ensures) ∙ c .if2 .left
 
-unmarked : (c : tie.Else3) → topWrong (c .before .before .before .before .before .before .before .before .before .before .args .kind) (topAt (c .before .before .before .before .before .before .before .before .before .before .args .list .now) (c .before .before .before .before .before .before .before .before .before .before .args .at)) ≡ false
-unmarked c = sym (c .before .top-wrong .ensures) ∙ c .if3 .left
-
-area-right : (c : tie.Else4) → areaWrong (c .before .before .before .before .before .before .before .before .before .before .before .before .args .list .now) (c .before .before .before .before .before .before .before .before .before .before .before .before .args .at) ≡ false
-area-right c = sym (c .before .area-wrong .ensures) ∙ c .if4 .left
-
-length-right : (c : tie.Else5) → lengthFits (typeAt (c .before .before .before .before .before .before .before .before .before .before .before .before .before .args .list .now) (c .before .before .before .before .before .before .before .before .before .before .before .before .before .args .at)) (areaLengthAt (c .before .before .before .before .before .before .before .before .before .before .before .before .before .args .list .now) (c .before .before .before .before .before .before .before .before .before .before .before .before .before .args .at)) (lengthAt (c .before .before .before .before .before .before .before .before .before .before .before .before .before .args .list .now) (c .before .before .before .before .before .before .before .before .before .before .before .before .before .args .at)) ≡ true
-length-right c =
-    let s = c .before .before .before .before .before .before .before .before .before .before .before .before .before .args .list .now in
-    let at = c .before .before .before .before .before .before .before .before .before .before .before .before .before .args .at in
-    fits-length (areaLengthAt s at) (lengthAt s at) (typeAt s at)
-    ∙ ap (λ (b : Bool). b && eqb (lengthAt s at) (lengthOf (typeAt s at) (areaLengthAt s at))) (is-known (c .before .before .before .before .before))
-    ∙ eq-eqb (lengthAt s at) (lengthOf (typeAt s at) (areaLengthAt s at)) (sym (c .before .before .before .before .before .before .before .before .wide .ensures .0) ∙ c .if5 .left ∙ c .before .before .before .before .before .before .length-of .ensures)
-
-in-list : (c : tie.Else6) → ltb (length (c .before .before .before .before .before .before .before .before .before .before .before .before .before .before .args .list .now)) (c .before .before .before .before .before .before .before .before .before .before .before .before .before .before .args .at + lengthAt (c .before .before .before .before .before .before .before .before .before .before .before .before .before .before .args .list .now) (c .before .before .before .before .before .before .before .before .before .before .before .before .before .before .args .at)) ≡ false
+in-list : (c : tie.Else3) → let a = c .before .before .before .before .before .before .before .before .before .args in a .at + lengthAt (a .list .now) (a .at) ≤ length (a .list .now)
 in-list c =
-    let e = c .before .before .before .before .before .before .before .before .before .wide .ensures .0 in
-    let h = c .if6 .left in
-    let k = c .before .before .before .before .before .before .before .before .before .before .before .before .before .before .pre .0 in
-    le-ltb (length (c .before .before .before .before .before .before .before .before .before .before .before .before .before .before .args .list .now)) (c .before .before .before .before .before .before .before .before .before .before .before .before .before .before .args .at + lengthAt (c .before .before .before .before .before .before .before .before .before .before .before .before .before .before .args .list .now) (c .before .before .before .before .before .before .before .before .before .before .before .before .before .before .args .at)) (omega arith)
+    let n = c .before .wide .ensures .0 in
+    let h = c .before .before .before .before .before .before .before .before .before .pre .0 in
+    omega arith
 
 sub-left : tie.Need-sub-left
 sub-left c = search needs
@@ -54,133 +32,73 @@ refuse-requires c κs = search needs
 returns : tie.Need-returns
 returns c =
     let a = c .before .before .before .args in
-    let s = a .list .now in
-    c .refuse .ensures ∙ sym (short (a .kind) s (a .at) (lt-ltb (length s) (a .at + 4) (omega arith)))
+    c .refuse .ensures ∙ sym (short (a .kind) (a .list .now) (a .at) (omega arith))
 
-shared-slice-read-first : tie.Need-shared-slice-read-first
-shared-slice-read-first c = search needs
+add-n : tie.Need-add-n
+add-n c = search needs
 
-add-wide : tie.Need-add-wide
-add-wide c = search needs
+shared-slice-read-n : tie.Need-shared-slice-read-n
+shared-slice-read-n c = search needs
 
-shared-slice-read-wide : tie.Need-shared-slice-read-wide
-shared-slice-read-wide c = search needs
+shared-slice-read-head-wrong : tie.Need-shared-slice-read-head-wrong
+shared-slice-read-head-wrong c = search needs
 
-wide-requires : tie.Need-wide-requires
-wide-requires c κs = search needs
+add-head-wrong : tie.Need-add-head-wrong
+add-head-wrong c = search needs
 
-cast-size : tie.Need-cast-size
-cast-size c = search needs
+shared-slice-read-head-wrong-2 : tie.Need-shared-slice-read-head-wrong-2
+shared-slice-read-head-wrong-2 c = search needs
 
-add-area : tie.Need-add-area
-add-area c = search needs
-
-shared-slice-read-area : tie.Need-shared-slice-read-area
-shared-slice-read-area c = search needs
-
-length-of-requires : tie.Need-length-of-requires
-length-of-requires c κs = search needs
+head-wrong-requires : tie.Need-head-wrong-requires
+head-wrong-requires c κs = search needs
 
 refuse-requires-2 : tie.Need-refuse-requires-2
 refuse-requires-2 c κs = search needs
 
 returns-2 : tie.Need-returns-2
 returns-2 c =
-    let a = c .before .before .before .before .before .before .before .before .before .args in
-    let s = a .list .now in
+    let a = c .before .before .before .before .before .before .before .before .args in
+    let n = c .before .before .head-wrong .ensures in
     c .refuse2 .ensures
-    ∙ sym
-    (unknown (a .kind) s (a .at) (four (c .before .before .before .before .before .before .before))
-    (known-length (areaLengthAt s (a .at)) (typeAt s (a .at))
-    ∙ ap (λ (n : ℕ). not (eqb n 0)) (sym (c .before .before .length-of .ensures) ∙ c .before .if2 .taken)))
+    ∙ ap (λ (x : ℕ). refusal x (a .at)) n
+    ∙ sym (bad-head (a .kind) (a .list .now) (a .at) (four (c .before .before .before .before .before .before)) (λ e. c .before .if2 .taken (n ∙ e)))
 
-top-wrong-requires : tie.Need-top-wrong-requires
-top-wrong-requires c κs = search needs
+wide-requires : tie.Need-wide-requires
+wide-requires c κs = search needs
 
 refuse-requires-3 : tie.Need-refuse-requires-3
 refuse-requires-3 c κs = search needs
 
 returns-3 : tie.Need-returns-3
 returns-3 c =
-    let a = c .before .before .before .before .before .before .before .before .before .before .before .args in
-    let s = a .list .now in
+    let a = c .before .before .before .before .before .before .before .before .before .before .args in
+    let n = c .before .before .wide .ensures .0 in
+    let h = c .before .before .before .before .before .before .before .before .before .before .pre .0 in
     c .refuse3 .ensures
-    ∙ sym (marked (a .kind) s (a .at) (four (c .before .before .before .before .before .before .before .before .before)) (is-known (c .before .before .before)) (sym (c .before .before .top-wrong .ensures) ∙ c .before .if3 .taken))
+    ∙ sym (past-end (a .kind) (a .list .now) (a .at) (four (c .before .before .before .before .before .before .before .before)) (right-head (c .before .before .before)) (omega arith))
 
-area-wrong-requires : tie.Need-area-wrong-requires
-area-wrong-requires c κs = search needs
+field-wrong-requires : tie.Need-field-wrong-requires
+field-wrong-requires c κs =
+    let a = c .before .before .before .before .before .before .before .before .before .args in
+    record {
+      long = four (c .before .before .before .before .before .before .before);
+      inside = in-list c;
+      fits = head-fits (a .kind) (a .list .now) (a .at) (right-head (c .before .before));
+    }
 
 refuse-requires-4 : tie.Need-refuse-requires-4
 refuse-requires-4 c κs = search needs
 
 returns-4 : tie.Need-returns-4
 returns-4 c =
-    let a = c .before .before .before .before .before .before .before .before .before .before .before .before .before .args in
-    let s = a .list .now in
+    let a = c .before .before .before .before .before .before .before .before .before .before .before .before .args in
     c .refuse4 .ensures
-    ∙ sym
-    (bad-area (a .kind) s (a .at) (four (c .before .before .before .before .before .before .before .before .before .before .before)) (is-known (c .before .before .before .before .before)) (unmarked (c .before .before .before)) (sym (c .before .before .area-wrong .ensures) ∙ c .before .if4 .taken))
-
-refuse-requires-5 : tie.Need-refuse-requires-5
-refuse-requires-5 c κs = search needs
+    ∙ sym (by-field (a .kind) (a .list .now) (a .at) (four (c .before .before .before .before .before .before .before .before .before .before)) (right-head (c .before .before .before .before .before)) (sym (c .before .if4 .taken) ∙ c .before .before .field-wrong .ensures) (in-list (c .before .before .before)))
 
 returns-5 : tie.Need-returns-5
 returns-5 c =
-    let a = c .before .before .before .before .before .before .before .before .before .before .before .before .before .before .args in
-    let s = a .list .now in
-    let n = c .before .before .before .before .before .before .before .before .before .wide .ensures .0 in
-    c .refuse5 .ensures
-    ∙ sym
-    (bad-length (a .kind) s (a .at) (four (c .before .before .before .before .before .before .before .before .before .before .before .before)) (is-known (c .before .before .before .before .before .before)) (unmarked (c .before .before .before .before)) (area-right (c .before .before))
-    (fits-length (areaLengthAt s (a .at)) (lengthAt s (a .at)) (typeAt s (a .at))
-    ∙ ap (λ (b : Bool). b && eqb (lengthAt s (a .at)) (lengthOf (typeAt s (a .at)) (areaLengthAt s (a .at)))) (is-known (c .before .before .before .before .before .before))
-    ∙ ne-eqb (lengthAt s (a .at)) (lengthOf (typeAt s (a .at)) (areaLengthAt s (a .at)))
-    (λ e. c .before .if5 .taken (n ∙ e ∙ sym (c .before .before .before .before .before .before .before .length-of .ensures)))))
-
-refuse-requires-6 : tie.Need-refuse-requires-6
-refuse-requires-6 c κs = search needs
-
-returns-6 : tie.Need-returns-6
-returns-6 c =
-    let a = c .before .before .before .before .before .before .before .before .before .before .before .before .before .before .before .args in
-    let s = a .list .now in
-    let n = c .before .before .before .before .before .before .before .before .before .before .wide .ensures .0 in
-    let h = c .before .if6 .taken in
-    let k = c .before .before .before .before .before .before .before .before .before .before .before .before .before .before .before .pre .0 in
-    c .refuse6 .ensures
-    ∙ sym
-    (past-end (a .kind) s (a .at) (four (c .before .before .before .before .before .before .before .before .before .before .before .before .before)) (is-known (c .before .before .before .before .before .before .before)) (unmarked (c .before .before .before .before .before)) (area-right (c .before .before .before)) (length-right (c .before .before))
-    (lt-ltb (length s) (a .at + lengthAt s (a .at)) (omega arith)))
-
-field-wrong-requires : tie.Need-field-wrong-requires
-field-wrong-requires c κs =
-    let a = c .before .before .before .before .before .before .before .before .before .before .before .before .before .before .args in
-    let s = a .list .now in
-    record {
-      long = ltb-false (length s) (a .at + 4) (four (c .before .before .before .before .before .before .before .before .before .before .before .before));
-      inside = ltb-false (length s) (a .at + lengthAt s (a .at)) (in-list c);
-      fits = length-right (c .before);
-    }
-
-refuse-requires-7 : tie.Need-refuse-requires-7
-refuse-requires-7 c κs = search needs
-
-returns-7 : tie.Need-returns-7
-returns-7 c =
-    let a = c .before .before .before .before .before .before .before .before .before .before .before .before .before .before .before .before .before .args in
-    let s = a .list .now in
-    c .refuse7 .ensures
-    ∙ sym
-    (bad-field (a .kind) s (a .at) (four (c .before .before .before .before .before .before .before .before .before .before .before .before .before .before .before)) (is-known (c .before .before .before .before .before .before .before .before .before)) (unmarked (c .before .before .before .before .before .before .before)) (area-right (c .before .before .before .before .before)) (length-right (c .before .before .before .before)) (in-list (c .before .before .before))
-    (sym (c .before .before .field-wrong .ensures) ∙ c .before .if7 .taken))
-
-returns-8 : tie.Need-returns-8
-returns-8 c =
-    let a = c .before .before .before .before .before .before .before .before .before .before .before .before .before .before .before .before .args in
-    let s = a .list .now in
-    sym
-    (right (a .kind) s (a .at) (four (c .before .before .before .before .before .before .before .before .before .before .before .before .before .before)) (is-known (c .before .before .before .before .before .before .before .before)) (unmarked (c .before .before .before .before .before .before)) (area-right (c .before .before .before .before)) (length-right (c .before .before .before)) (in-list (c .before .before))
-    (sym (c .before .field-wrong .ensures) ∙ c .if7 .left))
+    let a = c .before .before .before .before .before .before .before .before .before .before .before .args in
+    sym (by-field (a .kind) (a .list .now) (a .at) (four (c .before .before .before .before .before .before .before .before .before)) (right-head (c .before .before .before .before)) (sym (c .if4 .left) ∙ c .before .field-wrong .ensures) (in-list (c .before .before)))
 
 pub form-at-spec : {M : Type 1} → statement M
 form-at-spec =
@@ -189,27 +107,18 @@ form-at-spec =
     sub-left
     refuse-requires
     returns
-    shared-slice-read-first
-    add-wide
-    shared-slice-read-wide
-    wide-requires
-    cast-size
-    add-area
-    shared-slice-read-area
-    length-of-requires
+    add-n
+    shared-slice-read-n
+    shared-slice-read-head-wrong
+    add-head-wrong
+    shared-slice-read-head-wrong-2
+    head-wrong-requires
     refuse-requires-2
     returns-2
-    top-wrong-requires
+    wide-requires
     refuse-requires-3
     returns-3
-    area-wrong-requires
+    field-wrong-requires
     refuse-requires-4
     returns-4
-    refuse-requires-5
-    returns-5
-    refuse-requires-6
-    returns-6
-    field-wrong-requires
-    refuse-requires-7
-    returns-7
-    returns-8)
+    returns-5)

@@ -40,10 +40,10 @@ rounded-up-requires : tie.Need-rounded-up-requires Inv-loop μ-loop
 rounded-up-requires c κs = tt
 
 mul-result-3 : tie.Need-mul-result-3 Inv-loop μ-loop
-mul-result-3 c = record { fits = omega (arith, product-small (c .before .before .before .loop .i) (c .rounded-up .result) (c .before .before .loop-test .taken) (c .rounded-up .ensures .1)) }
+mul-result-3 c = record { fits = omega (arith, product-small (c .before .before .before .loop .i) (c .rounded-up .result) (c .rounded-up .ensures .1)) }
 
 add-result : tie.Need-add-result Inv-loop μ-loop
-add-result c = record { fits = omega (arith, product-small (c .before .before .before .loop .i) (c .rounded-up .result) (c .before .before .loop-test .taken) (c .rounded-up .ensures .1), fixed-small (c .before .before .before .loop .i) (c .before .before .loop-test .taken)) }
+add-result c = record { fits = omega (arith, product-small (c .before .before .before .loop .i) (c .rounded-up .result) (c .rounded-up .ensures .1), fixed-small (c .before .before .before .loop .i)) }
 
 returns : tie.Need-returns Inv-loop μ-loop
 returns c =

@@ -1,5 +1,4 @@
 -- `item::item_at` meets its contract: the subobject lies inside the list, so its fields can be read.
-use Prim.Native.Nat.{_+_}
 use mathlib.Core.Path.{refl}
 use native.Mathlib.Omega.{arith}
 use Rattle.model.specs.Subobject.{typeAt, areaLengthAt, lengthAt}
