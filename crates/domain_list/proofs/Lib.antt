@@ -8,5 +8,6 @@ pub mod Hits
 pub mod States
 pub mod Includes
 pub mod Copies
+pub mod SequenceCopies
 pub mod ReadChecks
 pub mod ReadOutcomes

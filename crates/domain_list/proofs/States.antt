@@ -11,6 +11,8 @@ use native.Mathlib.Omega.{arith}
 use lib.ListN.{length, getD, set, length-set}
 use lib.Seq.{getD-set-same, getD-set-other}
 use lib.Dec.{eqb}
+use Rattle.model.specs.declared.DomainIndex.{DomainIndex}
+use Rattle.model.specs.declared.NodeAddress.{NodeAddress}
 use Rattle.model.specs.Lists.{countFrom, among, any}
 use Rattle.model.specs.Sequence as M
 use Rattle.model.specs.WrittenList.{pinIf}
@@ -27,7 +29,7 @@ use Rattle.domain_list.specs.declared.state.Waiting.{Waiting}
 use Rattle.domain_list.specs.declared.state.Waiting.the-variants as Variant
 use Rattle.domain_list.specs.declared.state.State.{State}
 use Rattle.domain_list.specs.Found.{foundOf}
-use Rattle.domain_list.specs.Reading.{waitingOf, stopOf, stopsOf, stateOf, Clean, Sound, StateIs, SteppedIs, nameFound}
+use Rattle.domain_list.specs.Reading.{waitingOf, domainIn, nodeIn, stopOf, stopsOf, stateOf, Clean, Sound, StateIs, SteppedIs, nameFound}
 use Rattle.domain_list.proofs.Hits.{count-snoc}
 
 pub map-agree : {A B : Type 0} (f g : A → B) (xs : List A) → ((x : A) → List·Memᴰ x xs → f x ≡ g x) → map f xs ≡ map g xs
@@ -43,7 +45,7 @@ clean-pin : (p : Option ℕ) → Clean (pinMark p) (pinNode p)
 clean-pin none = (refl, refl)
 clean-pin (some n) = (refl, refl)
 
-module _ (st : State) (d m n : ℕ) (sound : Sound st) (room : st .count < 16) (em : m ≡ pinMark (M.pinOf (waitingOf (st .waiting)))) (en : n ≡ pinNode (M.pinOf (waitingOf (st .waiting)))) where
+module _ (st : State) (d : DomainIndex) (m : ℕ) (n : NodeAddress) (sound : Sound st) (room : st .count < 16) (em : m ≡ pinMark (M.pinOf (waitingOf (st .waiting)))) (en : n .0 ≡ pinNode (M.pinOf (waitingOf (st .waiting)))) where
   abbrev pub longer : State
   longer =
       record {
@@ -55,29 +57,29 @@ module _ (st : State) (d m n : ℕ) (sound : Sound st) (room : st .count < 16) (
         waiting = Variant.Nothing;
       }
 
-  at-domains : getD (longer .domains) (st .count) 0 ≡ d
-  at-domains = getD-set-same (st .domains) (st .count) d 0 (omega (arith, sound .domains-long))
+  at-domains : domainIn (longer .domains) (st .count) ≡ d .0
+  at-domains = ap (λ (x : DomainIndex). x .0) (getD-set-same (st .domains) (st .count) d (record { 0 = 0 }) (omega (arith, sound .domains-long)))
 
   at-pinned : getD (longer .pinned) (st .count) 0 ≡ m
   at-pinned = getD-set-same (st .pinned) (st .count) m 0 (omega (arith, sound .pinned-long))
 
-  at-pins : getD (longer .pins) (st .count) 0 ≡ n
-  at-pins = getD-set-same (st .pins) (st .count) n 0 (omega (arith, sound .pins-long))
+  at-pins : nodeIn (longer .pins) (st .count) ≡ n .0
+  at-pins = ap (λ (x : NodeAddress). x .0) (getD-set-same (st .pins) (st .count) n (record { 0 = 0 }) (omega (arith, sound .pins-long)))
 
   older : (i : ℕ) → i < st .count → stopOf longer i ≡ stopOf st i
   older i h =
       let e : (i ≡ st .count) → ⊥ = λ q. omega arith in
       λ k. record {
-        domain = getD-set-other (st .domains) (st .count) i d 0 e k;
-        pin = pinIf (getD-set-other (st .pinned) (st .count) i m 0 e k) (getD-set-other (st .pins) (st .count) i n 0 e k);
+        domain = (getD-set-other (st .domains) (st .count) i d (record { 0 = 0 }) e k) .0;
+        pin = pinIf (getD-set-other (st .pinned) (st .count) i m 0 e k) ((getD-set-other (st .pins) (st .count) i n (record { 0 = 0 }) e k) .0);
       }
 
-  newest : stopOf longer (st .count) ≡ record { domain = d; pin = M.pinOf (waitingOf (st .waiting)) }
+  newest : stopOf longer (st .count) ≡ record { domain = d .0; pin = M.pinOf (waitingOf (st .waiting)) }
   newest =
       let p = ap₂ pinIf (at-pinned ∙ em) (at-pins ∙ en) ∙ pin-back (M.pinOf (waitingOf (st .waiting))) in
       λ k. record { domain = at-domains k; pin = p k }
 
-  sequence : stopsOf longer ≡ stopsOf st ++ (record { domain = d; pin = M.pinOf (waitingOf (st .waiting)) } ∷ [])
+  sequence : stopsOf longer ≡ stopsOf st ++ (record { domain = d .0; pin = M.pinOf (waitingOf (st .waiting)) } ∷ [])
   unfolding stopsOf
   sequence =
       ap (λ (c : ℕ). map (stopOf longer) (countFrom 0 c)) (add-one (st .count))
@@ -87,23 +89,23 @@ module _ (st : State) (d m n : ℕ) (sound : Sound st) (room : st .count < 16) (
       (map-agree (stopOf longer) (stopOf st) (countFrom 0 (st .count)) (λ i h. older i (omega (arith, countFrom-mem 0 (st .count) h .1))))
       (ap {B = List M.Stop} (λ (x : M.Stop). x ∷ []) (ap (stopOf longer) (zero-add (st .count)) ∙ newest))
 
-  here : getD (longer .domains) (longer .count - 1) 0 ≡ d
-  here = ap (λ (i : ℕ). getD (longer .domains) i 0) (omega arith) ∙ at-domains
+  here : domainIn (longer .domains) (longer .count - 1) ≡ d .0
+  here = ap (domainIn (longer .domains)) (omega arith) ∙ at-domains
 
-  cleaner : (i : ℕ) → i < longer .count → Clean (getD (longer .pinned) i 0) (getD (longer .pins) i 0)
+  cleaner : (i : ℕ) → i < longer .count → Clean (getD (longer .pinned) i 0) (nodeIn (longer .pins) i)
   cleaner i h =
       ⊎-elim
       (λ (q : i ≡ st .count).
-      subst (λ (j : ℕ). Clean (getD (longer .pinned) j 0) (getD (longer .pins) j 0)) (sym q)
-      (subst (λ (x : ℕ). Clean x (getD (longer .pins) (st .count) 0)) (sym (at-pinned ∙ em))
+      subst (λ (j : ℕ). Clean (getD (longer .pinned) j 0) (nodeIn (longer .pins) j)) (sym q)
+      (subst (λ (x : ℕ). Clean x (nodeIn (longer .pins) (st .count))) (sym (at-pinned ∙ em))
       (subst (λ (x : ℕ). Clean (pinMark (M.pinOf (waitingOf (st .waiting)))) x) (sym (at-pins ∙ en)) (clean-pin (M.pinOf (waitingOf (st .waiting)))))))
       (λ (l : i < st .count).
       let e : (i ≡ st .count) → ⊥ = λ q. omega arith in
-      subst (λ (x : ℕ). Clean x (getD (longer .pins) i 0)) (sym (getD-set-other (st .pinned) (st .count) i m 0 e))
-      (subst (λ (x : ℕ). Clean (getD (st .pinned) i 0) x) (sym (getD-set-other (st .pins) (st .count) i n 0 e)) (sound .clean i l)))
+      subst (λ (x : ℕ). Clean x (nodeIn (longer .pins) i)) (sym (getD-set-other (st .pinned) (st .count) i m 0 e))
+      (subst (λ (x : ℕ). Clean (getD (st .pinned) i 0) x) (sym (ap (λ (x : NodeAddress). x .0) (getD-set-other (st .pins) (st .count) i n (record { 0 = 0 }) e))) (sound .clean i l)))
       (eq-or-lt-of-le (omega arith))
 
-  pub added-state : StateIs longer (M.added (stateOf st) d)
+  pub added-state : StateIs longer (M.added (stateOf st) (d .0))
   added-state =
       record {
         means = λ k. record { asn = st .asn; here = here k; sequence = sequence k; waiting = none };
@@ -121,14 +123,14 @@ module _ (st : State) (d m n : ℕ) (sound : Sound st) (room : st .count < 16) (
 -- ---- a search of the domains so far
 
 module _ (st : State) (d : ℕ) where
-  pub held : (i : ℕ) → i < st .count → getD (st .domains) i 0 ≡ d → among d (M.domainsOf (stopsOf st)) ≡ true
+  pub held : (i : ℕ) → i < st .count → domainIn (st .domains) i ≡ d → among d (M.domainsOf (stopsOf st)) ≡ true
   unfolding among stopsOf
   held i h e =
       mem-any (eqb d)
       (mem-map (λ (p : M.Stop). p .domain) (mem-map (stopOf st) (mem-countFrom 0 (st .count) i (omega arith) (omega arith))))
-      (eq-eqb d (getD (st .domains) i 0) (sym e))
+      (eq-eqb d (domainIn (st .domains) i) (sym e))
 
-  pub unheld : ((i : ℕ) → i < st .count → getD (st .domains) i 0 ≡ d → ⊥) → among d (M.domainsOf (stopsOf st)) ≡ false
+  pub unheld : ((i : ℕ) → i < st .count → domainIn (st .domains) i ≡ d → ⊥) → among d (M.domainsOf (stopsOf st)) ≡ false
   unfolding among stopsOf
   unheld h =
       refuted (among d (M.domainsOf (stopsOf st)))
@@ -190,7 +192,7 @@ pub changed
     : (st : State) (asn : ℕ) (w : Waiting) → Sound st
     → StateIs
     (record { asn = asn; count = st .count; domains = st .domains; pinned = st .pinned; pins = st .pins; waiting = w })
-    (record { asn = asn; here = getD (st .domains) (st .count - 1) 0; sequence = stopsOf st; waiting = waitingOf w })
+    (record { asn = asn; here = domainIn (st .domains) (st .count - 1); sequence = stopsOf st; waiting = waitingOf w })
 unfolding stopsOf
 changed st asn w sound =
     record {

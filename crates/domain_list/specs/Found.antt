@@ -15,13 +15,13 @@ use Rattle.domain_list.specs.declared.find.Found.the-variants.{Nothing, 
 -- a list of indexes, told by how many there are
 abbrev pub foundOf : List ℕ → Found
 foundOf [] = Nothing
-foundOf (d ∷ []) = One d
+foundOf (d ∷ []) = One (record { 0 = d })
 foundOf (d ∷ e ∷ rest) = Several
 
 -- the same from how many there are and the last of them
 abbrev pub foundAs : ℕ → ℕ → Found
 foundAs zero last = Nothing
-foundAs (suc zero) last = One last
+foundAs (suc zero) last = One (record { 0 = last })
 foundAs (suc (suc n)) last = Several
 
 -- the bytes hold as many domain records as the header says, of which there are at most 64

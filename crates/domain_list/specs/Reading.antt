@@ -4,6 +4,8 @@ use mathlib.Core.List.{List, [], _∷_, map}
 use mathlib.Core.Option.{Option, none, some}
 use Prim.Native.Nat.{ℕ, _-_, _≤_, _<_}
 use lib.ListN.{length, getD}
+use Rattle.model.specs.declared.DomainIndex.{DomainIndex}
+use Rattle.model.specs.declared.NodeAddress.{NodeAddress}
 use Rattle.model.specs.Lists.{countFrom}
 use Rattle.model.specs.Sequence as M
 use Rattle.model.specs.WrittenList.{pinIf}
@@ -18,11 +20,18 @@ use Rattle.domain_list.specs.declared.state.Stepped.{Stepped}
 
 abbrev pub waitingOf : Waiting → Option M.Waiting
 waitingOf Waiting.Nothing = none
-waitingOf (Waiting.Node at node) = some (record { offset = at; node = node })
+waitingOf (Waiting.Node at node) = some (record { offset = at; node = node .0 })
+
+-- domain i of the sequence, and its entry constraint's node
+abbrev pub domainIn : List DomainIndex → ℕ → ℕ
+domainIn ds i = (getD ds i (record { 0 = 0 })) .0
+
+abbrev pub nodeIn : List NodeAddress → ℕ → ℕ
+nodeIn ns i = (getD ns i (record { 0 = 0 })) .0
 
 -- domain i of the sequence with its entry constraint
 abbrev pub stopOf : State → ℕ → M.Stop
-stopOf st i = record { domain = getD (st .domains) i 0; pin = pinIf (getD (st .pinned) i 0) (getD (st .pins) i 0) }
+stopOf st i = record { domain = domainIn (st .domains) i; pin = pinIf (getD (st .pinned) i 0) (nodeIn (st .pins) i) }
 
 unfoldable pub stopsOf : State → List M.Stop
 stopsOf st = map (stopOf st) (countFrom 0 (st .count))
@@ -32,7 +41,7 @@ abbrev pub stateOf : State → M.State
 stateOf st =
     record {
       asn = st .asn;
-      here = getD (st .domains) (st .count - 1) 0;
+      here = domainIn (st .domains) (st .count - 1);
       sequence = stopsOf st;
       waiting = waitingOf (st .waiting);
     }
@@ -48,7 +57,7 @@ pub record Sound (st : State) : Type 0 where
   pub domains-long : length (st .domains) ≡ 16
   pub pinned-long : length (st .pinned) ≡ 16
   pub pins-long : length (st .pins) ≡ 16
-  pub clean : (i : ℕ) → i < st .count → Clean (getD (st .pinned) i 0) (getD (st .pins) i 0)
+  pub clean : (i : ℕ) → i < st .count → Clean (getD (st .pinned) i 0) (nodeIn (st .pins) i)
 
 -- a sound state that stands for this one
 pub record StateIs (st : State) (m : M.State) : Type 0 where
@@ -63,7 +72,7 @@ pub record SteppedIs (r : Stepped) (m : M.Reading M.State) : Type 0 where
 -- what naming a domain does, by what was found
 abbrev pub nameFound : ℕ → M.State → Found → M.Reading M.State
 nameFound at st Found.Nothing = M.refuse 28 at
-nameFound at st (Found.One d) = M.enter at st d
+nameFound at st (Found.One d) = M.enter at st (d .0)
 nameFound at st Found.Several = M.refuse 29 at
 
 -- the meaning of a list: refused, or a sound state whose sequence it is

@@ -11,6 +11,7 @@ use crate::area::has_area;
 use crate::subobject::Named;
 use crate::subobject::item_at;
 use model::Domain;
+use model::NodeAddress;
 
 // How many of an address's 32 bits stand after a prefix of this length.
 fn bits_after(bits: u8) -> u32
@@ -23,19 +24,19 @@ fn bits_after(bits: u8) -> u32
 }
 
 // The node's bits before the prefix length are those of the address.
-fn in_prefix(address: u32, bits: u8, node: u32) -> bool
-    ensures { λ r. ⌜ r ≡ inPrefix address bits node ⌝ }
+fn in_prefix(address: NodeAddress, bits: u8, node: NodeAddress) -> bool
+    ensures { λ r. ⌜ r ≡ inPrefix (address .0) bits (node .0) ⌝ }
 {
     let after = bits_after(bits);
-    (node as u64) >> after == (address as u64) >> after
+    (node.0 as u64) >> after == (address.0 as u64) >> after
 }
 
 // What is named takes the node away: an area does not, so the list doesn't matter.
-fn takes_node(named: Named, node: u32) -> bool
-    ensures { λ r. ⌜ ((s : List ℕ) → r ≡ takesNode node (namedOf s named)) ⌝ }
+fn takes_node(named: Named, node: NodeAddress) -> bool
+    ensures { λ r. ⌜ ((s : List ℕ) → r ≡ takesNode (node .0) (namedOf s named)) ⌝ }
 {
     match named {
-        Named::Prefix { address, bits } => in_prefix(address, bits, node),
+        Named::Prefix { address, bits } => in_prefix(NodeAddress(address), bits, node),
         Named::System { asn: _ } => false,
         Named::Area {
             kind: _,
@@ -78,9 +79,9 @@ pub fn excludes_domain(list: &[u8], d: Domain) -> bool
 }
 
 // The exclude list takes the node away.
-pub fn excludes_node(list: &[u8], node: u32) -> bool
+pub fn excludes_node(list: &[u8], node: NodeAddress) -> bool
     requires { ⌜ formVerdict Exclude (now list) ≡ Pass ⌝ }
-    ensures { λ r. ⌜ r ≡ excludedNode (subobjects (now (list .entry))) node ⌝ }
+    ensures { λ r. ⌜ r ≡ excludedNode (subobjects (now (list .entry))) (node .0) ⌝ }
 {
     let mut at: usize = 0;
     while at < list.len() {

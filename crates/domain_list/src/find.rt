@@ -1,5 +1,6 @@
 // The domains of a profile that a subobject can mean.
 use crate::area::has_area;
+use model::DomainIndex;
 use profile::domain::domain_at;
 use profile::header::domain_count;
 use wire::u32_at;
@@ -14,7 +15,7 @@ ghost use Rattle.domain_list.specs.Found.{foundOf, foundAs, WholeDomains
 // None, one (by its index) or several.
 pub enum Found {
     Nothing,
-    One { domain: u16 },
+    One { domain: DomainIndex },
     Several,
 }
 
@@ -27,7 +28,7 @@ fn told(hits: usize, last: usize) -> Found
     }
     if hits == 1 {
         return Found::One {
-            domain: last as u16,
+            domain: DomainIndex(last as u16),
         };
     }
     Found::Several

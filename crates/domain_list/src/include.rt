@@ -10,6 +10,8 @@ use crate::state::with_asn;
 use crate::subobject::Item;
 use crate::subobject::Named;
 use crate::subobject::item_at;
+use model::DomainIndex;
+use model::NodeAddress;
 use model::Refusal;
 use model::Verdict;
 use wire::u32_at;
@@ -50,7 +52,7 @@ fn read_item(profile: &[u8], list: &[u8], st: State, item: Item, follows: bool) 
     let at = item.offset;
     let named = item.named;
     match named {
-        Named::Prefix { address, bits: _ } => wait_for(st, at, address),
+        Named::Prefix { address, bits: _ } => wait_for(st, at, NodeAddress(address)),
         Named::System { asn } => read_system(profile, st, at, asn, follows),
         Named::Area { kind, start, count } => {
             let found = of_area(profile, st.asn, list, kind, start, count);
@@ -74,19 +76,19 @@ fn area_at(list: &[u8], at: usize) -> bool
 }
 
 // The reading starts in the ingress domain, with its AS as current.
-fn start(profile: &[u8], ingress: u16) -> State
-    requires { ⌜ WholeDomains (now profile) × (ingress < domainCount (now profile)) ⌝ }
-    ensures { λ r. ⌜ StateIs r (startIn (domains (now (profile .entry))) ingress) ⌝ }
+fn start(profile: &[u8], ingress: DomainIndex) -> State
+    requires { ⌜ WholeDomains (now profile) × (ingress .0 < domainCount (now profile)) ⌝ }
+    ensures { λ r. ⌜ StateIs r (startIn (domains (now (profile .entry))) (ingress .0)) ⌝ }
 {
-    let i = ingress as usize;
-    let mut domains = [0u16; 16];
+    let i = ingress.0 as usize;
+    let mut domains = [DomainIndex(0); 16];
     domains[0] = ingress;
     State {
         asn: u32_at(profile, 12 + 20 * i),
         count: 1,
         domains,
         pinned: [0u8; 16],
-        pins: [0u32; 16],
+        pins: [NodeAddress(0); 16],
         waiting: Waiting::Nothing,
     }
 }
@@ -113,10 +115,10 @@ fn finished(st: State) -> Stepped
 }
 
 // The whole list, subobject by subobject.
-pub fn read_list(profile: &[u8], ingress: u16, list: &[u8]) -> Stepped
-    requires { ⌜ WholeDomains (now profile) × ShortAreas (now profile) × (ingress < domainCount (now profile)) ⌝ }
+pub fn read_list(profile: &[u8], ingress: DomainIndex, list: &[u8]) -> Stepped
+    requires { ⌜ WholeDomains (now profile) × ShortAreas (now profile) × (ingress .0 < domainCount (now profile)) ⌝ }
     requires { ⌜ (length (now list) ≤ 1024) × (formVerdict Include (now list) ≡ Pass) ⌝ }
-    ensures { λ r. ⌜ MeaningIs r (meaning (domains (now (profile .entry))) ingress (now (list .entry))) ⌝ }
+    ensures { λ r. ⌜ MeaningIs r (meaning (domains (now (profile .entry))) (ingress .0) (now (list .entry))) ⌝ }
 {
     let mut st = start(profile, ingress);
     let mut at: usize = 0;

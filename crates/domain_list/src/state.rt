@@ -1,6 +1,8 @@
 // How far the reading of an include list is: the sequence so far and what waits. One step for each thing that a subobject can say.
 use crate::find::Found;
 use crate::subobject::refuse;
+use model::DomainIndex;
+use model::NodeAddress;
 use model::Verdict;
 ghost use mathlib.Core.Path.{_≡_};
 ghost use Prim.Native.Nat.{_≤_, _<_};
@@ -12,16 +14,16 @@ ghost use Rattle.domain_list.specs.Reading.{waitingOf, stopsOf, stateOf,
 // An entry constraint that waits for the next new domain: the offset of its subobject, and the node.
 pub enum Waiting {
     Nothing,
-    Node { offset: u32, node: u32 },
+    Node { offset: u32, node: NodeAddress },
 }
 
 // The current AS, the domains so far (`count` of them) with their entry constraints, and the one that waits.
 pub struct State {
     pub asn: u32,
     pub count: usize,
-    pub domains: [u16; 16],
+    pub domains: [DomainIndex; 16],
     pub pinned: [u8; 16],
-    pub pins: [u32; 16],
+    pub pins: [NodeAddress; 16],
     pub waiting: Waiting,
 }
 
@@ -40,19 +42,19 @@ fn mark_of(waiting: Waiting) -> u8
     }
 }
 
-fn node_of(waiting: Waiting) -> u32
-    ensures { λ r. ⌜ r ≡ pinNode (pinOf (waitingOf waiting)) ⌝ }
+fn node_of(waiting: Waiting) -> NodeAddress
+    ensures { λ r. ⌜ r .0 ≡ pinNode (pinOf (waitingOf waiting)) ⌝ }
 {
     match waiting {
-        Waiting::Nothing => 0,
+        Waiting::Nothing => NodeAddress(0),
         Waiting::Node { offset: _, node } => node,
     }
 }
 
 // A new domain at the end of the sequence, entered by the node that waits, if there is one.
-fn add(st: State, d: u16) -> State
+fn add(st: State, d: DomainIndex) -> State
     requires { ⌜ Sound st × (st .count < 16) ⌝ }
-    ensures { λ r. ⌜ StateIs r (added (stateOf st) d) ⌝ }
+    ensures { λ r. ⌜ StateIs r (added (stateOf st) (d .0)) ⌝ }
 {
     let at = st.count;
     let waiting = st.waiting;
@@ -73,15 +75,14 @@ fn add(st: State, d: u16) -> State
 }
 
 // The sequence holds this domain.
-fn holds(st: State, d: u16) -> bool
+fn holds(st: State, d: DomainIndex) -> bool
     requires { ⌜ Sound st ⌝ }
-    ensures { λ r. ⌜ r ≡ among d (domainsOf (stopsOf st)) ⌝ }
+    ensures { λ r. ⌜ r ≡ among (d .0) (domainsOf (stopsOf st)) ⌝ }
 {
     let n = st.count;
-    let domains = st.domains;
     let mut i: usize = 0;
     while i < n {
-        if domains[i] == d {
+        if st.domains[i].0 == d.0 {
             return true;
         }
         i += 1;
@@ -90,14 +91,13 @@ fn holds(st: State, d: u16) -> bool
 }
 
 // Naming a domain: the domain one is in adds nothing, one that comes back is 30, else a seventeenth is 31.
-fn enter_domain(st: State, at: usize, d: u16) -> Stepped
+fn enter_domain(st: State, at: usize, d: DomainIndex) -> Stepped
     requires { ⌜ Sound st × (at ≤ 1024) ⌝ }
-    ensures { λ r. ⌜ SteppedIs r (enter at (stateOf st) d) ⌝ }
+    ensures { λ r. ⌜ SteppedIs r (enter at (stateOf st) (d .0)) ⌝ }
 {
     let count = st.count;
-    let domains = st.domains;
-    let here = domains[count - 1];
-    if d == here {
+    let here = st.domains[count - 1];
+    if d.0 == here.0 {
         return Stepped {
             verdict: Verdict::Pass,
             state: st,
@@ -140,9 +140,9 @@ pub fn name_found(st: State, at: usize, found: Found) -> Stepped
 }
 
 // A node waits for the next new domain; a second while one waits is 32.
-pub fn wait_for(st: State, at: usize, node: u32) -> Stepped
+pub fn wait_for(st: State, at: usize, node: NodeAddress) -> Stepped
     requires { ⌜ Sound st × (at ≤ 1024) ⌝ }
-    ensures { λ r. ⌜ SteppedIs r (wait at (stateOf st) node (waitingOf (st .waiting))) ⌝ }
+    ensures { λ r. ⌜ SteppedIs r (wait at (stateOf st) (node .0) (waitingOf (st .waiting))) ⌝ }
 {
     let waiting = st.waiting;
     match waiting {

@@ -14,7 +14,7 @@ use Rattle.domain_list.proofs.exclusion.excludes_node.Statement.{statem
 use Rattle.domain_list.proofs.exclusion.excludes_node.Tie as tie
 
 abbrev Inv-loop : tie.InvT-loop
-Inv-loop list node at₀ at = (at ≤ length list) × (formLeft Exclude list at ≡ Pass) × (someNamed (takesNode node) (subobjectsLeft list at) ≡ excludedNode (subobjects list) node)
+Inv-loop list node at₀ at = (at ≤ length list) × (formLeft Exclude list at ≡ Pass) × (someNamed (takesNode (node .0)) (subobjectsLeft list at) ≡ excludedNode (subobjects list) (node .0))
 
 abbrev μ-loop : tie.MeasureT-loop
 μ-loop list node at₀ at = length list - at
@@ -23,7 +23,7 @@ loop-holds : tie.Need-loop-holds Inv-loop μ-loop
 unfolding excludedNode
 loop-holds c =
     let a = c .before .args in
-    (omega arith, form-whole Exclude (a .list .now) ∙ c .before .pre, any-start (λ (x : Subobject). takesNode (a .node) (x .names)) (a .list .now))
+    (omega arith, form-whole Exclude (a .list .now) ∙ c .before .pre, any-start (λ (x : Subobject). takesNode (a .node .0) (x .names)) (a .list .now))
 
 item-at-requires : tie.Need-item-at-requires Inv-loop μ-loop
 item-at-requires c κs =
@@ -40,7 +40,7 @@ returns c =
     let l = c .before .before .before .before .loop in
     let i = c .before .before .item-at in
     sym
-    (name-hit Exclude (a .list .now) (l .at) (c .before .before .before .loop-test .taken) (l .inv .1) (i .result) (i .ensures) (takesNode (a .node))
+    (name-hit Exclude (a .list .now) (l .at) (c .before .before .before .loop-test .taken) (l .inv .1) (i .result) (i .ensures) (takesNode (a .node .0))
     (sym (c .before .takes-node .ensures (a .list .now)) ∙ c .if1 .taken))
     ∙ l .inv .2
 
@@ -60,7 +60,7 @@ loop-again c =
     let h = c .before .before .before .loop-test .taken in (
       (item-here Exclude (a .list .now) (l .at) h (l .inv .1) (i .result) (i .ensures)) .inside,
       left-next Exclude (a .list .now) (l .at) h (l .inv .1) (i .result) (i .ensures),
-      name-more Exclude (a .list .now) (l .at) h (l .inv .1) (i .result) (i .ensures) (takesNode (a .node)) (sym (c .before .takes-node .ensures (a .list .now)) ∙ c .if1 .left)
+      name-more Exclude (a .list .now) (l .at) h (l .inv .1) (i .result) (i .ensures) (takesNode (a .node .0)) (sym (c .before .takes-node .ensures (a .list .now)) ∙ c .if1 .left)
           ∙ l .inv .2,
     )
 
@@ -68,7 +68,7 @@ returns-2 : tie.Need-returns-2 Inv-loop μ-loop
 returns-2 c =
     let a = c .before .before .before .args in
     let l = c .before .loop in
-    sym (any-end (λ (x : Subobject). takesNode (a .node) (x .names)) (a .list .now) (l .at) (c .loop-test .left)) ∙ l .inv .2
+    sym (any-end (λ (x : Subobject). takesNode (a .node .0) (x .names)) (a .list .now) (l .at) (c .loop-test .left)) ∙ l .inv .2
 
 pub excludes-node-spec : {M : Type 1} → statement M
 excludes-node-spec =

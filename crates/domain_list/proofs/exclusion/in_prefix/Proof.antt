@@ -12,21 +12,35 @@ bits-after-requires c κs = search needs
 cast-result : tie.Need-cast-result
 cast-result c = search needs
 
+cast-result-2 : tie.Need-cast-result-2
+cast-result-2 c = search needs
+
 shr-result : tie.Need-shr-result
 shr-result c = search needs
 
-cast-result-2 : tie.Need-cast-result-2
-cast-result-2 c = search needs
+cast-result-3 : tie.Need-cast-result-3
+cast-result-3 c = search needs
+
+cast-result-4 : tie.Need-cast-result-4
+cast-result-4 c = search needs
 
 shr-result-2 : tie.Need-shr-result-2
 shr-result-2 c = search needs
 
 returns : tie.Need-returns
 returns c =
-    let a = c .before .args in
-    ap (λ (n : ℕ). eqb (a .node / 2 ^ n) (a .address / 2 ^ n)) (c .bits-after .ensures .0)
+    let a = c .before .before .before .args in
+    ap (λ (n : ℕ). eqb (a .node .0 / 2 ^ n) (a .address .0 / 2 ^ n)) (c .before .before .bits-after .ensures .0)
 
 pub in-prefix-spec : {M : Type 1} → statement M
 in-prefix-spec =
     tie.close
-    (tie.spec bits-after-requires cast-result shr-result cast-result-2 shr-result-2 returns)
+    (tie.spec
+    bits-after-requires
+    cast-result
+    cast-result-2
+    shr-result
+    cast-result-3
+    cast-result-4
+    shr-result-2
+    returns)

@@ -22,17 +22,17 @@ enum-told-2 c = search needs
 returns : tie.Need-returns
 returns c =
     let a = c .before .before .before .before .args in
-    λ s. c .in-prefix .ensures ∙ sym (ap (λ (n : Named). takesNode (a .node) (namedOf s n)) (c .before .before .named .given .1))
+    λ s. c .in-prefix .ensures ∙ sym (ap (λ (n : Named). takesNode (a .node .0) (namedOf s n)) (c .before .before .named .given .1))
 
 returns-2 : tie.Need-returns-2
 returns-2 c =
     let a = c .before .before .args in
-    λ s. sym (ap (λ (n : Named). takesNode (a .node) (namedOf s n)) (c .enum-told .given .1))
+    λ s. sym (ap (λ (n : Named). takesNode (a .node .0) (namedOf s n)) (c .enum-told .given .1))
 
 returns-3 : tie.Need-returns-3
 returns-3 c =
     let a = c .before .before .args in
-    λ s. sym (ap (λ (n : Named). takesNode (a .node) (namedOf s n)) (c .enum-told2 .given .1))
+    λ s. sym (ap (λ (n : Named). takesNode (a .node .0) (namedOf s n)) (c .enum-told2 .given .1))
 
 pub takes-node-spec : {M : Type 1} → statement M
 takes-node-spec =

@@ -7,8 +7,8 @@ use Rattle.domain_list.proofs.state.add.Tie as tie
 mul-domains : tie.Need-mul-domains
 mul-domains c = search needs
 
-array-write-domains : tie.Need-array-write-domains
-array-write-domains c = search needs
+array-set-from-domains : tie.Need-array-set-from-domains
+array-set-from-domains c = search needs
 
 mark-of-requires : tie.Need-mark-of-requires
 mark-of-requires c κs = search needs
@@ -22,8 +22,8 @@ node-of-requires c κs = search needs
 mul-pins : tie.Need-mul-pins
 mul-pins c = search needs
 
-array-write-pins : tie.Need-array-write-pins
-array-write-pins c = search needs
+array-set-from-pins : tie.Need-array-set-from-pins
+array-set-from-pins c = search needs
 
 add-t8 : tie.Need-add-t8
 add-t8 c = search needs
@@ -39,11 +39,11 @@ add-spec =
     tie.close
     (tie.spec
     mul-domains
-    array-write-domains
+    array-set-from-domains
     mark-of-requires
     array-write-pinned
     node-of-requires
     mul-pins
-    array-write-pins
+    array-set-from-pins
     add-t8
     returns)

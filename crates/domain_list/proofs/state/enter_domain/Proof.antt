@@ -14,14 +14,14 @@ sub-here c = search needs
 mul-here : tie.Need-mul-here
 mul-here c = search needs
 
-array-read-here : tie.Need-array-read-here
-array-read-here c = search needs
+element-copy-out-here : tie.Need-element-copy-out-here
+element-copy-out-here c = search needs
 
 returns : tie.Need-returns
 returns c =
-    let a = c .before .before .args in
-    let pre = c .before .before .pre in
-    stepped-on (a .st) _ _ (record { means = refl; sound = pre .0 }) (enter-here (a .at) (stateOf (a .st)) (a .d) (c .if1 .taken))
+    let a = c .before .before .before .before .args in
+    let pre = c .before .before .before .before .pre in
+    stepped-on (a .t1) _ _ (record { means = refl; sound = pre .0 }) (enter-here (a .at) (stateOf (a .t1)) (a .d .0) (c .if1 .taken))
 
 holds-requires : tie.Need-holds-requires
 holds-requires c κs = search needs
@@ -31,32 +31,32 @@ refuse-requires c κs = search needs
 
 returns-2 : tie.Need-returns-2
 returns-2 c =
-    let a = c .before .before .before .before .before .args in
-    let pre = c .before .before .before .before .before .pre in
-    stepped-refused (a .st) _ 30 (a .at) _ (pre .0) (c .refuse .ensures)
-    (enter-back (a .at) (stateOf (a .st)) (a .d) (c .before .before .before .if1 .left) (sym (c .before .before .holds .ensures) ∙ c .before .if2 .taken))
+    let a = c .before .before .before .before .before .before .before .args in
+    let pre = c .before .before .before .before .before .before .before .pre in
+    stepped-refused (a .t1) _ 30 (a .at) _ (pre .0) (c .refuse .ensures)
+    (enter-back (a .at) (stateOf (a .t1)) (a .d .0) (c .before .before .before .if1 .left) (sym (c .before .before .holds .ensures) ∙ c .before .if2 .taken))
 
 refuse-requires-2 : tie.Need-refuse-requires-2
 refuse-requires-2 c κs = search needs
 
 returns-3 : tie.Need-returns-3
 returns-3 c =
-    let a = c .before .before .before .before .before .before .args in
-    let pre = c .before .before .before .before .before .before .pre in
+    let a = c .before .before .before .before .before .before .before .before .args in
+    let pre = c .before .before .before .before .before .before .before .before .pre in
     let full = c .before .if3 .taken in
-    stepped-refused (a .st) _ 31 (a .at) _ (pre .0) (c .refuse2 .ensures)
-    (enter-full (a .at) (stateOf (a .st)) (a .d) (c .before .before .before .before .if1 .left) (sym (c .before .before .before .holds .ensures) ∙ c .before .before .if2 .left) (omega (arith, length-stops (a .st))))
+    stepped-refused (a .t1) _ 31 (a .at) _ (pre .0) (c .refuse2 .ensures)
+    (enter-full (a .at) (stateOf (a .t1)) (a .d .0) (c .before .before .before .before .if1 .left) (sym (c .before .before .before .holds .ensures) ∙ c .before .before .if2 .left) (omega (arith, length-stops (a .t1))))
 
 add-requires : tie.Need-add-requires
 add-requires c κs = search needs
 
 returns-4 : tie.Need-returns-4
 returns-4 c =
-    let a = c .before .before .before .before .before .before .args in
-    let pre = c .before .before .before .before .before .before .pre in
+    let a = c .before .before .before .before .before .before .before .before .args in
+    let pre = c .before .before .before .before .before .before .before .before .pre in
     let room = c .before .if3 .left in
     stepped-on (c .add .result) _ _ (c .add .ensures)
-    (enter-new (a .at) (stateOf (a .st)) (a .d) (c .before .before .before .before .if1 .left) (sym (c .before .before .before .holds .ensures) ∙ c .before .before .if2 .left) (omega (arith, length-stops (a .st))))
+    (enter-new (a .at) (stateOf (a .t1)) (a .d .0) (c .before .before .before .before .if1 .left) (sym (c .before .before .before .holds .ensures) ∙ c .before .before .if2 .left) (omega (arith, length-stops (a .t1))))
 
 pub enter-domain-spec : {M : Type 1} → statement M
 enter-domain-spec =
@@ -64,7 +64,7 @@ enter-domain-spec =
     (tie.spec
     sub-here
     mul-here
-    array-read-here
+    element-copy-out-here
     returns
     holds-requires
     refuse-requires

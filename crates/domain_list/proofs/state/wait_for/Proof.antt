@@ -26,13 +26,13 @@ returns c =
     let a = c .before .before .before .args in
     let pre = c .before .before .before .pre in
     stepped-refused (a .st) _ 32 (a .at) _ (pre .0) (c .refuse .ensures)
-    (ap (λ (w : Waiting). M.wait (a .at) (stateOf (a .st)) (a .node) (waitingOf w)) (c .before .enum-told .given .1))
+    (ap (λ (w : Waiting). M.wait (a .at) (stateOf (a .st)) (a .node .0) (waitingOf w)) (c .before .enum-told .given .1))
 
 returns-2 : tie.Need-returns-2
 returns-2 c =
     let a = c .before .before .before .before .before .args in
     stepped-on _ _ _ (changed (a .st) (a .st .asn) (Node (a .at) (a .node)) (c .before .before .before .before .before .pre .0))
-    (ap (λ (w : Waiting). M.wait (a .at) (stateOf (a .st)) (a .node) (waitingOf w)) (c .before .before .before .enum-told2 .given .1))
+    (ap (λ (w : Waiting). M.wait (a .at) (stateOf (a .st)) (a .node .0) (waitingOf w)) (c .before .before .before .enum-told2 .given .1))
 
 pub wait-for-spec : {M : Type 1} → statement M
 wait-for-spec =
