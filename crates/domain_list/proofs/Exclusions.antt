@@ -10,9 +10,9 @@ use Rattle.model.specs.declared.Verdict.the-variants.{Pass}
 use Rattle.model.specs.Lists.{any}
 use Rattle.model.specs.Subobject as M
 use Rattle.laws.proofs.Walk.{formLeft, subobjectsLeft, right-here, right-next, any-hit, any-more}
-use Rattle.domain_list.specs.declared.subobject.Item.{Item}
-use Rattle.domain_list.specs.Items.{namedOf, Readable, ItemIs, ItemAt}
-use Rattle.domain_list.proofs.FormLaws.{readable}
+use Rattle.subobject.specs.declared.item.Item.{Item}
+use Rattle.subobject.specs.Items.{namedOf, Readable, ItemIs, ItemAt}
+use Rattle.subobject.proofs.FormLaws.{readable}
 
 -- some subobject's name passes the test
 abbrev pub someNamed : (M.Named → Bool) → List M.Subobject → Bool

@@ -10,7 +10,7 @@ use lib.Dec.{eqb, ltb}
 use mathlib.Core.Logic.{⊎-elim}
 use borrow.Author.Tests.{ne-eqb, eqb-true, eqb-false}
 use Rattle.laws.proofs.Tests.{decide}
-use Rattle.domain_list.proofs.FormLaws.{named-6, named-7}
+use Rattle.subobject.proofs.FormLaws.{named-6, named-7}
 use Rattle.model.specs.Bytes.{number, part}
 use Rattle.model.specs.Lists.{countFrom}
 use Rattle.model.specs.Subobject.{Subobject, prefix, system, area, subobjectAt, subobjectsFrom, typeAt, lengthAt, areaLengthAt, namedAt}
@@ -26,8 +26,8 @@ use Rattle.laws.proofs.Walk.{formLeft, subobjectsLeft, subobjects-end, subobjec
 use Rattle.model.specs.declared.Refusal.{Refusal}
 use Rattle.model.specs.declared.ListKind.the-variants.{Include}
 use Rattle.model.specs.declared.Verdict.the-variants.{Pass}
-use Rattle.domain_list.specs.declared.subobject.Item.{Item}
-use Rattle.domain_list.specs.Items.{namedOf, ItemIs}
+use Rattle.subobject.specs.declared.item.Item.{Item}
+use Rattle.subobject.specs.Items.{namedOf, ItemIs}
 
 -- ---- an area comes next exactly where the type is 6 or 7
 

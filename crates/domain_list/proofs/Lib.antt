@@ -1,8 +1,3 @@
-pub mod Table
-pub mod Zeros
-pub mod LengthLaws
-pub mod FormLaws
-pub mod Areas
 pub mod Exclusions
 pub mod Hits
 pub mod States

@@ -6,12 +6,12 @@ ghost use Rattle.model.specs.declared.Verdict.the-variants.{Pass};
 ghost use Rattle.model.specs.declared.ListKind.the-variants.{Exclude};
 ghost use Rattle.model.specs.Subobject.{formVerdict, subobjects};
 ghost use Rattle.model.specs.Exclusion.{inPrefix, takesDomain, takesNode, excludedDomain, excludedNode};
-ghost use Rattle.domain_list.specs.Items.{namedOf, AreaInside};
-use crate::area::has_area;
-use crate::subobject::Named;
-use crate::subobject::item_at;
+ghost use Rattle.subobject.specs.Items.{namedOf, AreaInside};
 use model::Domain;
 use model::NodeAddress;
+use subobject::area::has_area;
+use subobject::item::Named;
+use subobject::item::item_at;
 
 // How many of an address's 32 bits stand after a prefix of this length.
 fn bits_after(bits: u8) -> u32
@@ -36,7 +36,7 @@ fn takes_node(named: Named, node: NodeAddress) -> bool
     ensures { λ r. ⌜ ((s : List ℕ) → r ≡ takesNode (node .0) (namedOf s named)) ⌝ }
 {
     match named {
-        Named::Prefix { address, bits } => in_prefix(NodeAddress(address), bits, node),
+        Named::Prefix { address, bits } => in_prefix(address, bits, node),
         Named::System { asn: _ } => false,
         Named::Area {
             kind: _,

@@ -1,8 +1,8 @@
 // The domains of a profile that a subobject can mean.
-use crate::area::has_area;
 use model::DomainIndex;
 use profile::domain::domain_at;
 use profile::header::domain_count;
+use subobject::area::has_area;
 use wire::u32_at;
 ghost use mathlib.Core.Path.{_≡_};
 ghost use Prim.Native.Nat.{_+_, _≤_};

@@ -7,13 +7,13 @@ use crate::state::Waiting;
 use crate::state::name_found;
 use crate::state::wait_for;
 use crate::state::with_asn;
-use crate::subobject::Item;
-use crate::subobject::Named;
-use crate::subobject::item_at;
 use model::DomainIndex;
 use model::NodeAddress;
 use model::Refusal;
 use model::Verdict;
+use subobject::item::Item;
+use subobject::item::Named;
+use subobject::item::item_at;
 use wire::u32_at;
 ghost use mathlib.Core.Path.{_≡_};
 ghost use Prim.Native.Nat.{_≤_, _<_};
@@ -24,7 +24,7 @@ ghost use Rattle.model.specs.Profile.{domains, domainCount};
 ghost use Rattle.model.specs.Subobject.{formVerdict};
 ghost use Rattle.model.specs.Sequence.{readSystem, readNamed, areaNext, startIn, finish, meaning};
 ghost use Rattle.laws.proofs.Walk.{subobjectsLeft};
-ghost use Rattle.domain_list.specs.Items.{namedOf, AreaInside};
+ghost use Rattle.subobject.specs.Items.{namedOf, AreaInside};
 ghost use Rattle.domain_list.specs.Found.{WholeDomains, ShortAreas};
 ghost use Rattle.domain_list.specs.Reading.{stateOf, waitingOf, Sound, StateIs, SteppedIs, MeaningIs};
 
@@ -52,7 +52,7 @@ fn read_item(profile: &[u8], list: &[u8], st: State, item: Item, follows: bool) 
     let at = item.offset;
     let named = item.named;
     match named {
-        Named::Prefix { address, bits: _ } => wait_for(st, at, NodeAddress(address)),
+        Named::Prefix { address, bits: _ } => wait_for(st, at, address),
         Named::System { asn } => read_system(profile, st, at, asn, follows),
         Named::Area { kind, start, count } => {
             let found = of_area(profile, st.asn, list, kind, start, count);

@@ -1,9 +1,6 @@
 // Domain lists: what the subobjects of an include or exclude list say, and what they mean on a profile.
-pub mod area;
 pub mod exclusion;
 pub mod find;
-pub mod form;
 pub mod include;
 pub mod read;
 pub mod state;
-pub mod subobject;

@@ -1,5 +1,4 @@
 // `read_include`: the checks in document 01's order, the meaning of the list, and its sequence in the lent buffers.
-use crate::form::form;
 use crate::include::read_list;
 use crate::state::State;
 use model::DomainIndex;
@@ -9,6 +8,7 @@ use model::Refusal;
 use model::Verdict;
 use profile::header::domain_count;
 use profile::verdict_on;
+use subobject::form::form;
 ghost use mathlib.Core.Path.{_≡_};
 ghost use Prim.Native.Nat.{_≤_, min};
 ghost use Rattle.domain_list.specs.Reading.{stopsOf, Sound};

@@ -1,9 +1,9 @@
 // How far the reading of an include list is: the sequence so far and what waits. One step for each thing that a subobject can say.
 use crate::find::Found;
-use crate::subobject::refuse;
 use model::DomainIndex;
 use model::NodeAddress;
 use model::Verdict;
+use subobject::form::refuse;
 ghost use mathlib.Core.Path.{_≡_};
 ghost use Prim.Native.Nat.{_≤_, _<_};
 ghost use Rattle.model.specs.Lists.{among};

@@ -1,8 +1,8 @@
 -- `exclusion::takes_node` meets its contract: in each arm what is named is the arm's.
 use mathlib.Core.Path.{sym, ap, _∙_}
 use Rattle.model.specs.Exclusion.{takesNode}
-use Rattle.domain_list.specs.declared.subobject.Named.{Named}
-use Rattle.domain_list.specs.Items.{namedOf}
+use Rattle.subobject.specs.declared.item.Named.{Named}
+use Rattle.subobject.specs.Items.{namedOf}
 use borrow.Author.Needs.{needs}
 use Rattle.domain_list.proofs.exclusion.takes_node.Statement.{statement}
 use Rattle.domain_list.proofs.exclusion.takes_node.Tie as tie

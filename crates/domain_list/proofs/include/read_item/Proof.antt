@@ -3,8 +3,8 @@ use mathlib.Core.Path.{_≡_, sym, ap, subst, _∙_}
 use Rattle.model.specs.Profile.{domains}
 use Rattle.model.specs.Bytes.{part}
 use Rattle.model.specs.Sequence as M
-use Rattle.domain_list.specs.declared.subobject.Named.{Named}
-use Rattle.domain_list.specs.Items.{namedOf, AreaInside}
+use Rattle.subobject.specs.declared.item.Named.{Named}
+use Rattle.subobject.specs.Items.{namedOf, AreaInside}
 use Rattle.domain_list.specs.Reading.{stateOf, SteppedIs, nameFound}
 use Rattle.domain_list.proofs.States.{named-found}
 use borrow.Author.Needs.{needs}

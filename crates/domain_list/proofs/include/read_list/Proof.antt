@@ -12,9 +12,9 @@ use Rattle.model.specs.Request.{provided}
 use Rattle.model.specs.Sequence as M
 use Rattle.laws.proofs.Walk.{formLeft, subobjectsLeft, form-whole, right-here, right-next}
 use Rattle.model.specs.Subobject.{subobjectVerdict, subobjectAt, lengthAt}
-use Rattle.domain_list.specs.Items.{ItemIs}
+use Rattle.subobject.specs.Items.{ItemIs}
 use Rattle.domain_list.specs.Reading.{stopsOf, stateOf, Sound, MeaningIs}
-use Rattle.domain_list.proofs.FormLaws.{readable}
+use Rattle.subobject.proofs.FormLaws.{readable}
 use Rattle.domain_list.proofs.Includes.{read-here, read-passed, read-refused, read-end, read-start}
 use Rattle.domain_list.proofs.include.read_list.Statement.{statement}
 use Rattle.domain_list.proofs.include.read_list.Tie as tie

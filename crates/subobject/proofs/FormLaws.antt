@@ -1,0 +1,126 @@
+-- The form of one subobject, check by check: which refusal it is once the checks before have passed. By putting the tests' values into the definition.
+use mathlib.Core.Path.{_≡_, refl, sym, ap, _∙_}
+use mathlib.Core.Bool.{Bool, true, false, not, _&&_, or-false}
+use mathlib.Core.List.{List}
+use Prim.Native.Nat.{ℕ, _+_, _-_, _≤_}
+use native.Mathlib.Omega.{arith}
+use lib.Dec.{eqb, leb, ltb}
+use lib.ListN.{length, getD}
+use borrow.Author.Tests.{ne-eqb}
+use Rattle.laws.proofs.Walk.{right-subobject}
+use Rattle.model.specs.declared.ListKind.{ListKind}
+use Rattle.model.specs.declared.Verdict.the-variants.{Pass}
+use Rattle.model.specs.Bytes.{number, part, allZero}
+use Rattle.model.specs.Subobject.{subobjectVerdict, known, lengthFits, topWrong, prefixWrong, paddingWrong, typeAt, topAt, lengthAt, areaLengthAt, roundedUp, namedAt, prefix, system, area}
+use Rattle.subobject.specs.Items.{fieldWrong, refusal, Readable, zeroFrom}
+use Rattle.subobject.specs.Lengths.{lengthOf}
+use Rattle.subobject.proofs.LengthLaws.{fitting, length-1, length-5, length-6, length-7}
+
+abbrev pub areaWrong : List ℕ → ℕ → Bool
+areaWrong s at = eqb (typeAt s at) 7 && not (leb 1 (areaLengthAt s at) && leb (areaLengthAt s at) 13)
+
+module _ (k : ListKind) (s : List ℕ) (at : ℕ) where
+  pub short : ltb (length s) (at + 4) ≡ true → subobjectVerdict k s at ≡ refusal 23 at
+  unfolding subobjectVerdict
+  short e1 = rw e1 refl
+
+  module _ (e1 : ltb (length s) (at + 4) ≡ false) where
+    pub unknown : known (typeAt s at) ≡ false → subobjectVerdict k s at ≡ refusal 24 at
+    unfolding subobjectVerdict
+    unknown e2 = rw (e1, e2) refl
+
+    module _ (e2 : known (typeAt s at) ≡ true) where
+      pub marked : topWrong k (topAt s at) ≡ true → subobjectVerdict k s at ≡ refusal 27 at
+      unfolding subobjectVerdict
+      marked e3 = rw (e1, e2, e3) refl
+
+      module _ (e3 : topWrong k (topAt s at) ≡ false) where
+        pub bad-area : areaWrong s at ≡ true → subobjectVerdict k s at ≡ refusal 26 at
+        unfolding subobjectVerdict
+        bad-area e4 = rw (e1, e2, e3, e4) refl
+
+        module _ (e4 : areaWrong s at ≡ false) where
+          pub bad-length : lengthFits (typeAt s at) (areaLengthAt s at) (lengthAt s at) ≡ false → subobjectVerdict k s at ≡ refusal 25 at
+          unfolding subobjectVerdict
+          bad-length e5 = rw (e1, e2, e3, e4, e5) refl
+
+          module _ (e5 : lengthFits (typeAt s at) (areaLengthAt s at) (lengthAt s at) ≡ true) where
+            pub past-end : ltb (length s) (at + lengthAt s at) ≡ true → subobjectVerdict k s at ≡ refusal 23 at
+            unfolding subobjectVerdict
+            past-end e6 = rw (e1, e2, e3, e4, e5, e6) refl
+
+            module _ (e6 : ltb (length s) (at + lengthAt s at) ≡ false) where
+              pub bad-field : fieldWrong k s at ≡ true → subobjectVerdict k s at ≡ refusal 26 at
+              unfolding subobjectVerdict
+              bad-field e7 = rw (e1, e2, e3, e4, e5, e6, e7) refl
+
+              pub right : fieldWrong k s at ≡ false → subobjectVerdict k s at ≡ Pass
+              unfolding subobjectVerdict
+              right e7 = rw (e1, e2, e3, e4, e5, e6, e7) refl
+
+-- what a subobject that lies inside the list has room for
+module _ (s : List ℕ) (at : ℕ) (r : Readable s at) where
+  -- its length, by its type
+  long-by : (t : ℕ) → typeAt s at ≡ t → lengthAt s at ≡ lengthOf t (areaLengthAt s at)
+  long-by t e = fitting (typeAt s at) (areaLengthAt s at) (lengthAt s at) (r .fits) ∙ ap (λ (u : ℕ). lengthOf u (areaLengthAt s at)) e
+
+  pub room-8 : (t : ℕ) → typeAt s at ≡ t → lengthOf t (areaLengthAt s at) ≡ 8 → at + 8 ≤ length s
+  room-8 t e n = let l = long-by t e ∙ n in let i = r .inside in omega arith
+
+  pub room-1 : typeAt s at ≡ 1 → at + 8 ≤ length s
+  room-1 e = room-8 1 e (length-1 (areaLengthAt s at))
+
+  pub room-5 : typeAt s at ≡ 5 → at + 8 ≤ length s
+  room-5 e = room-8 5 e (length-5 (areaLengthAt s at))
+
+  pub room-6 : typeAt s at ≡ 6 → at + 8 ≤ length s
+  room-6 e = room-8 6 e (length-6 (areaLengthAt s at))
+
+  pub padded : typeAt s at ≡ 7 → lengthAt s at ≡ 4 + roundedUp (areaLengthAt s at)
+  padded e = long-by 7 e ∙ length-7 (areaLengthAt s at)
+
+  pub room-7 : typeAt s at ≡ 7 → at + 4 + areaLengthAt s at ≤ length s
+  room-7 e = let l = padded e in let i = r .inside in omega arith
+
+  -- the padding, from the place after the area up to the subobject's end
+  pub padding : typeAt s at ≡ 7 → not (zeroFrom s (at + 4 + areaLengthAt s at) (at + lengthAt s at)) ≡ paddingWrong s at
+  padding e =
+      let p = padded e in
+      let d : (at + lengthAt s at) - (at + 4 + areaLengthAt s at) ≡ lengthAt s at - (4 + areaLengthAt s at) = omega arith in
+      ap (λ (n : ℕ). not (allZero (part s (at + 4 + areaLengthAt s at) n))) d
+
+module _ (k : ListKind) (s : List ℕ) (at : ℕ) where
+  pub field-1 : typeAt s at ≡ 1 → prefixWrong k s at ≡ fieldWrong k s at
+  field-1 e = rw e (sym (or-false (prefixWrong k s at)))
+
+  pub field-7 : typeAt s at ≡ 7 → paddingWrong s at ≡ fieldWrong k s at
+  field-7 e = rw e refl
+
+  pub field-none : (typeAt s at ≡ 1 → ⊥) → (typeAt s at ≡ 7 → ⊥) → false ≡ fieldWrong k s at
+  field-none d1 d7 = rw (ne-eqb (typeAt s at) 1 d1, ne-eqb (typeAt s at) 7 d7) refl
+
+-- what a subobject names, by its type
+module _ (s : List ℕ) (at : ℕ) where
+  pub named-1 : typeAt s at ≡ 1 → namedAt s at ≡ prefix (number 4 s (at + 2)) (getD s (at + 6) 0)
+  unfolding namedAt
+  named-1 e = rw e refl
+
+  pub named-5 : typeAt s at ≡ 5 → namedAt s at ≡ system (number 4 s (at + 4))
+  unfolding namedAt
+  named-5 e = rw e refl
+
+  pub named-6 : typeAt s at ≡ 6 → namedAt s at ≡ area (record { kind = 1; bytes = part s (at + 4) 4 })
+  unfolding namedAt
+  named-6 e = rw e refl
+
+  pub named-7 : typeAt s at ≡ 7 → namedAt s at ≡ area (record { kind = 2; bytes = part s (at + 4) (areaLengthAt s at) })
+  unfolding namedAt
+  named-7 e = rw e refl
+
+  pub named-32 : (typeAt s at ≡ 1 → ⊥) → (typeAt s at ≡ 5 → ⊥) → (typeAt s at ≡ 6 → ⊥) → (typeAt s at ≡ 7 → ⊥) → namedAt s at ≡ system (number 2 s (at + 2))
+  unfolding namedAt
+  named-32 d1 d5 d6 d7 = rw (ne-eqb (typeAt s at) 1 d1, ne-eqb (typeAt s at) 5 d5, ne-eqb (typeAt s at) 6 d6, ne-eqb (typeAt s at) 7 d7) refl
+
+-- a subobject of right form, in either kind of list, lies inside the list and has its type's length
+pub readable : (k : ListKind) (s : List ℕ) (at : ℕ) → subobjectVerdict k s at ≡ Pass → Readable s at
+readable k s at e = let r = right-subobject k s at e in record { long = r .head; inside = r .whole; fits = r .fits }

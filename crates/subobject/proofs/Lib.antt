@@ -1,0 +1,5 @@
+pub mod Table
+pub mod Zeros
+pub mod LengthLaws
+pub mod FormLaws
+pub mod Areas

@@ -1,0 +1,87 @@
+// One subobject of a list, where its form is right: what it names, and where the next one starts.
+ghost use mathlib.Core.Path.{_≡_};
+ghost use Prim.Native.Nat.{_<_};
+ghost use Rattle.subobject.specs.Items.{Readable, NamedIs, ItemAt};
+use model::NodeAddress;
+use wire::u16_at;
+use wire::u32_at;
+
+// What a subobject names. An area's bytes are left where they stand: in the list, from `start` on.
+pub enum Named {
+    Prefix {
+        address: NodeAddress,
+        bits: u8,
+    },
+    System {
+        asn: u32,
+    },
+    Area {
+        kind: u8,
+        start: usize,
+        count: usize,
+    },
+}
+
+// A subobject: its offset, its top bit (L or X), what it names, and where the next one starts.
+pub struct Item {
+    pub offset: usize,
+    pub top: bool,
+    pub named: Named,
+    pub next: usize,
+}
+
+pub fn wide(x: u8) -> usize
+    ensures { λ r. ⌜ (r ≡ x) × (r < 256) ⌝ }
+{
+    x as usize
+}
+
+// What a subobject of right form names.
+fn named_at(list: &[u8], at: usize) -> Named
+    requires { ⌜ Readable (now list) at ⌝ }
+    ensures { λ r. ⌜ NamedIs (now (list .entry)) at r ⌝ }
+{
+    let t = list[at] % 128;
+    if t == 1 {
+        let address = NodeAddress(u32_at(list, at + 2));
+        let bits = list[at + 6];
+        return Named::Prefix { address, bits };
+    }
+    if t == 5 {
+        return Named::System {
+            asn: u32_at(list, at + 4),
+        };
+    }
+    let start = at + 4;
+    if t == 6 {
+        return Named::Area {
+            kind: 1,
+            start,
+            count: 4,
+        };
+    }
+    if t == 7 {
+        let count = wide(list[at + 2]);
+        return Named::Area {
+            kind: 2,
+            start,
+            count,
+        };
+    }
+    let asn = u16_at(list, at + 2) as u32;
+    Named::System { asn }
+}
+
+// The subobject at an offset where the form is right.
+pub fn item_at(list: &[u8], at: usize) -> Item
+    requires { ⌜ Readable (now list) at ⌝ }
+    ensures { λ r. ⌜ ItemAt (now (list .entry)) at r ⌝ }
+{
+    let named = named_at(list, at);
+    Item {
+        offset: at,
+        top: 128 <= list[at],
+        named,
+        next: at + wide(list[at + 1]),
+    }
+}
