@@ -1,4 +1,3 @@
-pub mod Exclusions
 pub mod Hits
 pub mod States
 pub mod Includes

@@ -1,5 +1,4 @@
-// Domain lists: what the subobjects of an include or exclude list say, and what they mean on a profile.
-pub mod exclusion;
+// What an include list means on a profile: its sequence of domains and their entry constraints, or its refusal.
 pub mod find;
 pub mod include;
 pub mod read;

@@ -1,11 +1,11 @@
--- `exclusion::takes_domain` meets its contract: in each arm what is named is the arm's, and an area's bytes lie inside the list.
+-- `takes_domain` meets its contract: in each arm what is named is the arm's, and an area's bytes lie inside the list.
 use mathlib.Core.Path.{_≡_, sym, ap, subst, subst⁻¹}
 use Rattle.model.specs.Exclusion.{takesDomain}
 use Rattle.subobject.specs.declared.item.Named.{Named}
 use Rattle.subobject.specs.Items.{namedOf, AreaInside}
 use borrow.Author.Needs.{needs}
-use Rattle.domain_list.proofs.exclusion.takes_domain.Statement.{statement}
-use Rattle.domain_list.proofs.exclusion.takes_domain.Tie as tie
+use Rattle.exclusion.proofs.takes_domain.Statement.{statement}
+use Rattle.exclusion.proofs.takes_domain.Tie as tie
 
 enum-told : tie.Need-enum-told
 enum-told c = search needs

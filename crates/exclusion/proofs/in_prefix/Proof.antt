@@ -1,10 +1,10 @@
--- `exclusion::in_prefix` meets its contract: a shift to the right is a division by the power of two.
+-- `in_prefix` meets its contract: a shift to the right is a division by the power of two.
 use Prim.Native.Nat.{ℕ, _/_, _^_}
 use mathlib.Core.Path.{ap}
 use lib.Dec.{eqb}
 use borrow.Author.Needs.{needs}
-use Rattle.domain_list.proofs.exclusion.in_prefix.Statement.{statement}
-use Rattle.domain_list.proofs.exclusion.in_prefix.Tie as tie
+use Rattle.exclusion.proofs.in_prefix.Statement.{statement}
+use Rattle.exclusion.proofs.in_prefix.Tie as tie
 
 bits-after-requires : tie.Need-bits-after-requires
 bits-after-requires c κs = search needs

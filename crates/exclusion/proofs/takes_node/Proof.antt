@@ -1,11 +1,11 @@
--- `exclusion::takes_node` meets its contract: in each arm what is named is the arm's.
+-- `takes_node` meets its contract: in each arm what is named is the arm's.
 use mathlib.Core.Path.{sym, ap, _∙_}
 use Rattle.model.specs.Exclusion.{takesNode}
 use Rattle.subobject.specs.declared.item.Named.{Named}
 use Rattle.subobject.specs.Items.{namedOf}
 use borrow.Author.Needs.{needs}
-use Rattle.domain_list.proofs.exclusion.takes_node.Statement.{statement}
-use Rattle.domain_list.proofs.exclusion.takes_node.Tie as tie
+use Rattle.exclusion.proofs.takes_node.Statement.{statement}
+use Rattle.exclusion.proofs.takes_node.Tie as tie
 
 enum-known-named : tie.Need-enum-known-named
 enum-known-named c = search needs
