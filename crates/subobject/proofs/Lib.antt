@@ -3,3 +3,4 @@ pub mod Zeros
 pub mod LengthLaws
 pub mod FormLaws
 pub mod Areas
+pub mod WalkOwns

@@ -7,6 +7,7 @@ ghost use mathlib.Core.Bool.{not, _&&_};
 ghost use Rattle.model.specs.Subobject.{roundedUp, formVerdict, subobjectVerdict, topWrong, prefixWrong};
 ghost use Rattle.subobject.specs.Lengths.{lengthOf};
 ghost use Rattle.subobject.specs.Items.{Readable, zeroFrom, fieldWrong, refusal};
+use crate::item::next_at;
 use crate::item::wide;
 use model::ListKind;
 use model::Refusal;
@@ -171,7 +172,7 @@ pub fn form(kind: ListKind, list: &[u8]) -> Verdict
         if let Verdict::Refuse(r) = verdict {
             return Verdict::Refuse(r);
         }
-        at += wide(list[at + 1]);
+        at = next_at(list, at);
     }
     Verdict::Pass
 }

@@ -1,6 +1,7 @@
 // One subobject of a list, where its form is right: what it names, and where the next one starts.
 ghost use mathlib.Core.Path.{_≡_};
-ghost use Prim.Native.Nat.{_<_};
+ghost use Prim.Native.Nat.{_+_, _<_};
+ghost use Rattle.model.specs.Subobject.{lengthAt};
 ghost use Rattle.subobject.specs.Items.{Readable, NamedIs, ItemAt};
 use model::NodeAddress;
 use wire::u16_at;
@@ -72,16 +73,26 @@ fn named_at(list: &[u8], at: usize) -> Named
     Named::System { asn }
 }
 
+// Where the subobject after the one at an offset starts.
+pub fn next_at(list: &[u8], at: usize) -> usize
+    requires { ⌜ Readable (now list) at ⌝ }
+    ensures { λ r. ⌜ r ≡ at + lengthAt (now (list .entry)) at ⌝ }
+{
+    at + wide(list[at + 1])
+}
+
 // The subobject at an offset where the form is right.
 pub fn item_at(list: &[u8], at: usize) -> Item
     requires { ⌜ Readable (now list) at ⌝ }
     ensures { λ r. ⌜ ItemAt (now (list .entry)) at r ⌝ }
 {
     let named = named_at(list, at);
+    let next = next_at(list, at);
+    let top = 128 <= list[at];
     Item {
         offset: at,
-        top: 128 <= list[at],
+        top,
         named,
-        next: at + wide(list[at + 1]),
+        next,
     }
 }

@@ -7,6 +7,7 @@ use lib.ListN.{length}
 use Rattle.model.specs.declared.Verdict.the-variants.{Pass}
 use Rattle.model.specs.Subobject.{formVerdict, subobjectVerdict}
 use Rattle.laws.proofs.Walk.{right-subobject, formLeft, form-whole, form-end, form-refused, form-next}
+use Rattle.subobject.proofs.FormLaws.{readable}
 use Rattle.subobject.proofs.form.form.Statement.{statement}
 use Rattle.subobject.proofs.form.form.Tie as tie
 
@@ -39,38 +40,27 @@ returns c =
 enum-told : tie.Need-enum-told Inv-loop μ-loop
 enum-told c = search needs
 
-add-wide : tie.Need-add-wide Inv-loop μ-loop
-add-wide c = search needs
-
-shared-slice-read-wide : tie.Need-shared-slice-read-wide Inv-loop μ-loop
-shared-slice-read-wide c =
-    let a = c .before .before .before .before .before .before .before .args in
-    let r = right-subobject (a .kind) (a .list .now) (c .before .before .before .before .before .loop .at) (right (c .before)) in
-    omega (arith, r .head)
-
-wide-requires : tie.Need-wide-requires Inv-loop μ-loop
-wide-requires c κs = search needs
-
-add-at : tie.Need-add-at Inv-loop μ-loop
-add-at c = search needs
+next-at-requires : tie.Need-next-at-requires Inv-loop μ-loop
+next-at-requires c κs =
+    let a = c .before .before .before .before .before .before .args in
+    readable (a .kind) (a .list .now) (c .before .before .before .before .loop .at) (right c)
 
 loop-less : tie.Need-loop-less Inv-loop μ-loop
 loop-less c =
-    let a = c .before .before .before .before .before .before .before .before .args in
-    let r = right-subobject (a .kind) (a .list .now) (c .before .before .before .before .before .before .loop .at) (right (c .before .before)) in
-    let w = c .wide .ensures .0 in
+    let a = c .before .before .before .before .before .before .before .args in
+    let r = right-subobject (a .kind) (a .list .now) (c .before .before .before .before .before .loop .at) (right (c .before)) in
+    let n = c .next-at .ensures in
     omega (arith, r .whole, r .long)
 
 loop-again : tie.Need-loop-again Inv-loop μ-loop
 loop-again c =
-    let a = c .before .before .before .before .before .before .before .before .args in
-    let l = c .before .before .before .before .before .before .loop in
-    let e = right (c .before .before) in
-    let r = right-subobject (a .kind) (a .list .now) (l .at) e in
-    let w = c .wide .ensures .0 in (
-      omega (arith, r .whole),
-      ap (λ (n : ℕ). formLeft (a .kind) (a .list .now) (l .at + n)) w
-          ∙ sym (form-next (a .kind) (a .list .now) (l .at) (c .before .before .before .before .before .loop-test .taken) e)
+    let a = c .before .before .before .before .before .before .before .args in
+    let l = c .before .before .before .before .before .loop in
+    let e = right (c .before) in
+    let n = c .next-at .ensures in (
+      rw n ((right-subobject (a .kind) (a .list .now) (l .at) e) .whole),
+      ap (formLeft (a .kind) (a .list .now)) n
+          ∙ sym (form-next (a .kind) (a .list .now) (l .at) (c .before .before .before .before .loop-test .taken) e)
           ∙ l .inv .1,
     )
 
@@ -91,10 +81,7 @@ form-spec =
     enum-known-verdict
     returns
     enum-told
-    add-wide
-    shared-slice-read-wide
-    wide-requires
-    add-at
+    next-at-requires
     loop-less
     loop-again
     returns-2)
