@@ -19,9 +19,9 @@ use Rattle.model.specs.declared.Domain.{Domain}
 use Rattle.model.specs.declared.DomainIndex.{DomainIndex}
 use Rattle.model.specs.Profile.{domainAt, domainCount, domainStart, domains}
 use Rattle.laws.proofs.Records.{domain-at}
-use Rattle.domain_list.specs.declared.state.State.{State}
-use Rattle.domain_list.specs.declared.state.Waiting.the-variants.{Nothing}
-use Rattle.domain_list.specs.Reading.{nodeIn, stopsOf, Clean, Sound, StateIs}
+use Rattle.sequence.specs.declared.state.State.{State}
+use Rattle.sequence.specs.declared.state.Waiting.the-variants.{Nothing}
+use Rattle.sequence.specs.Reading.{nodeIn, stopsOf, Clean, Sound, StateIs}
 use Rattle.laws.proofs.Walk.{formLeft, subobjectsLeft, subobjects-end, subobjects-step, subobjects-next, subobjects-whole}
 use Rattle.model.specs.declared.Refusal.{Refusal}
 use Rattle.model.specs.declared.ListKind.the-variants.{Include}

@@ -1,5 +1,3 @@
-pub mod Hits
-pub mod States
 pub mod Includes
 pub mod Copies
 pub mod SequenceCopies

@@ -10,9 +10,9 @@ use lib.Seq.{take-all}
 use Rattle.model.specs.Lists.{over, countFrom}
 use Rattle.model.specs.Sequence.{Stop}
 use Rattle.laws.proofs.ProfileLists.{getD-map-countFrom}
-use Rattle.domain_list.specs.declared.state.State.{State}
-use Rattle.domain_list.specs.Reading.{stopOf, stopsOf}
-use Rattle.domain_list.proofs.States.{length-stops}
+use Rattle.sequence.specs.declared.state.State.{State}
+use Rattle.sequence.specs.Reading.{stopOf, stopsOf}
+use Rattle.sequence.proofs.States.{length-stops}
 use Rattle.domain_list.proofs.Copies.{Copied, copied-long, copied-more}
 
 abbrev noStop : Stop

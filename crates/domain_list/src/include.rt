@@ -1,19 +1,19 @@
 // The meaning of an include list of right form on an accepted profile: its sequence of domains and their entry constraints, or its refusal (28 to 32).
-use crate::find::of_area;
-use crate::find::of_system;
-use crate::state::State;
-use crate::state::Stepped;
-use crate::state::Waiting;
-use crate::state::name_found;
-use crate::state::wait_for;
-use crate::state::with_asn;
 use model::DomainIndex;
 use model::NodeAddress;
 use model::Refusal;
 use model::Verdict;
+use sequence::find::of_area;
+use sequence::find::of_system;
+use sequence::state::State;
+use sequence::state::Stepped;
+use sequence::state::Waiting;
+use sequence::state::name_found;
+use sequence::state::wait_for;
+use sequence::state::with_asn;
 use subobject::item::Item;
 use subobject::item::Named;
-use subobject::item::item_at;
+use subobject::walk::subobject_at;
 use wire::u32_at;
 ghost use mathlib.Core.Path.{_≡_};
 ghost use Prim.Native.Nat.{_≤_, _<_};
@@ -25,8 +25,8 @@ ghost use Rattle.model.specs.Subobject.{formVerdict};
 ghost use Rattle.model.specs.Sequence.{readSystem, readNamed, areaNext, startIn, finish, meaning};
 ghost use Rattle.laws.proofs.Walk.{subobjectsLeft};
 ghost use Rattle.subobject.specs.Items.{namedOf, AreaInside};
-ghost use Rattle.domain_list.specs.Found.{WholeDomains, ShortAreas};
-ghost use Rattle.domain_list.specs.Reading.{stateOf, waitingOf, Sound, StateIs, SteppedIs, MeaningIs};
+ghost use Rattle.sequence.specs.Found.{WholeDomains, ShortAreas};
+ghost use Rattle.sequence.specs.Reading.{stateOf, waitingOf, Sound, StateIs, SteppedIs, MeaningIs};
 
 // An AS becomes current; unless an area follows at once it names its only domain.
 fn read_system(profile: &[u8], st: State, at: usize, asn: u32, follows: bool) -> Stepped
@@ -123,7 +123,7 @@ pub fn read_list(profile: &[u8], ingress: DomainIndex, list: &[u8]) -> Stepped
     let mut st = start(profile, ingress);
     let mut at: usize = 0;
     while at < list.len() {
-        let item = item_at(list, at);
+        let item = subobject_at(list, at);
         let next = item.next;
         let stepped = read_item(profile, list, st, item, area_at(list, next));
         let verdict = stepped.verdict;

@@ -1,6 +1,5 @@
 // `read_include`: the checks in document 01's order, the meaning of the list, and its sequence in the lent buffers.
 use crate::include::read_list;
-use crate::state::State;
 use model::DomainIndex;
 use model::ListKind;
 use model::ReadAnswer;
@@ -8,10 +7,11 @@ use model::Refusal;
 use model::Verdict;
 use profile::header::domain_count;
 use profile::verdict_on;
+use sequence::state::State;
 use subobject::form::form;
 ghost use mathlib.Core.Path.{_≡_};
 ghost use Prim.Native.Nat.{_≤_, min};
-ghost use Rattle.domain_list.specs.Reading.{stopsOf, Sound};
+ghost use Rattle.sequence.specs.Reading.{stopsOf, Sound};
 ghost use Rattle.domain_list.specs.ReadInclude.{readVerdict, least3, SequenceIn, ReadIs};
 
 // The sequence at the start of the lent buffers.

@@ -11,7 +11,7 @@ use model::Domain;
 use model::NodeAddress;
 use subobject::area::has_area;
 use subobject::item::Named;
-use subobject::item::item_at;
+use subobject::walk::subobject_at;
 
 // How many of an address's 32 bits stand after a prefix of this length.
 fn bits_after(bits: u8) -> u32
@@ -68,7 +68,7 @@ pub fn excludes_domain(list: &[u8], d: Domain) -> bool
 {
     let mut at: usize = 0;
     while at < list.len() {
-        let item = item_at(list, at);
+        let item = subobject_at(list, at);
         let named = item.named;
         if takes_domain(list, named, d) {
             return true;
@@ -85,7 +85,7 @@ pub fn excludes_node(list: &[u8], node: NodeAddress) -> bool
 {
     let mut at: usize = 0;
     while at < list.len() {
-        let item = item_at(list, at);
+        let item = subobject_at(list, at);
         let named = item.named;
         if takes_node(named, node) {
             return true;

@@ -19,8 +19,8 @@ loop-holds c =
     let a = c .before .args in
     undecided (takesDomain (a .d)) (a .list .now) (c .before .pre .0)
 
-item-at-requires : tie.Need-item-at-requires Inv-loop μ-loop
-item-at-requires c κs =
+subobject-at-requires : tie.Need-subobject-at-requires Inv-loop μ-loop
+subobject-at-requires c κs =
     let a = c .before .before .before .args in
     readable-here (takesDomain (a .d)) (a .list .now) (c .before .loop .at) (c .before .loop .inv) (c .loop-test .taken)
 
@@ -28,28 +28,28 @@ takes-domain-requires : tie.Need-takes-domain-requires Inv-loop μ-loop
 takes-domain-requires c κs =
     let a = c .before .before .before .before .args in
     let l = c .before .before .loop in
-    ((item-here (takesDomain (a .d)) (a .list .now) (l .at) (l .inv) (c .before .loop-test .taken) _ (c .item-at .ensures)) .area, c .before .before .before .before .pre .1)
+    ((item-here (takesDomain (a .d)) (a .list .now) (l .at) (l .inv) (c .before .loop-test .taken) _ (c .subobject-at .ensures)) .area, c .before .before .before .before .pre .1)
 
 returns : tie.Need-returns Inv-loop μ-loop
 unfolding excludedDomain
 returns c =
     let a = c .before .before .before .before .before .before .args in
     let l = c .before .before .before .before .loop in
-    decided (takesDomain (a .d)) (a .list .now) (l .at) (l .inv) (c .before .before .before .loop-test .taken) _ (c .before .before .item-at .ensures)
+    decided (takesDomain (a .d)) (a .list .now) (l .at) (l .inv) (c .before .before .before .loop-test .taken) _ (c .before .before .subobject-at .ensures)
     (sym (c .before .takes-domain .ensures) ∙ c .if1 .taken)
 
 loop-less : tie.Need-loop-less Inv-loop μ-loop
 loop-less c =
     let a = c .before .before .before .before .before .before .args in
     let l = c .before .before .before .before .loop in
-    let is = item-here (takesDomain (a .d)) (a .list .now) (l .at) (l .inv) (c .before .before .before .loop-test .taken) _ (c .before .before .item-at .ensures) in
+    let is = item-here (takesDomain (a .d)) (a .list .now) (l .at) (l .inv) (c .before .before .before .loop-test .taken) _ (c .before .before .subobject-at .ensures) in
     omega (arith, is .further, is .inside)
 
 loop-again : tie.Need-loop-again Inv-loop μ-loop
 loop-again c =
     let a = c .before .before .before .before .before .before .args in
     let l = c .before .before .before .before .loop in
-    passed (takesDomain (a .d)) (a .list .now) (l .at) (l .inv) (c .before .before .before .loop-test .taken) _ (c .before .before .item-at .ensures)
+    passed (takesDomain (a .d)) (a .list .now) (l .at) (l .inv) (c .before .before .before .loop-test .taken) _ (c .before .before .subobject-at .ensures)
     (sym (c .before .takes-domain .ensures) ∙ c .if1 .left)
 
 returns-2 : tie.Need-returns-2 Inv-loop μ-loop
@@ -65,7 +65,7 @@ excludes-domain-spec =
     Inv-loop
     μ-loop
     loop-holds
-    item-at-requires
+    subobject-at-requires
     takes-domain-requires
     returns
     loop-less

@@ -19,8 +19,8 @@ loop-holds c =
     let a = c .before .args in
     undecided (takesNode (a .node .0)) (a .list .now) (c .before .pre)
 
-item-at-requires : tie.Need-item-at-requires Inv-loop μ-loop
-item-at-requires c κs =
+subobject-at-requires : tie.Need-subobject-at-requires Inv-loop μ-loop
+subobject-at-requires c κs =
     let a = c .before .before .before .args in
     readable-here (takesNode (a .node .0)) (a .list .now) (c .before .loop .at) (c .before .loop .inv) (c .loop-test .taken)
 
@@ -32,21 +32,21 @@ unfolding excludedNode
 returns c =
     let a = c .before .before .before .before .before .before .args in
     let l = c .before .before .before .before .loop in
-    decided (takesNode (a .node .0)) (a .list .now) (l .at) (l .inv) (c .before .before .before .loop-test .taken) _ (c .before .before .item-at .ensures)
+    decided (takesNode (a .node .0)) (a .list .now) (l .at) (l .inv) (c .before .before .before .loop-test .taken) _ (c .before .before .subobject-at .ensures)
     (sym (c .before .takes-node .ensures (a .list .now)) ∙ c .if1 .taken)
 
 loop-less : tie.Need-loop-less Inv-loop μ-loop
 loop-less c =
     let a = c .before .before .before .before .before .before .args in
     let l = c .before .before .before .before .loop in
-    let is = item-here (takesNode (a .node .0)) (a .list .now) (l .at) (l .inv) (c .before .before .before .loop-test .taken) _ (c .before .before .item-at .ensures) in
+    let is = item-here (takesNode (a .node .0)) (a .list .now) (l .at) (l .inv) (c .before .before .before .loop-test .taken) _ (c .before .before .subobject-at .ensures) in
     omega (arith, is .further, is .inside)
 
 loop-again : tie.Need-loop-again Inv-loop μ-loop
 loop-again c =
     let a = c .before .before .before .before .before .before .args in
     let l = c .before .before .before .before .loop in
-    passed (takesNode (a .node .0)) (a .list .now) (l .at) (l .inv) (c .before .before .before .loop-test .taken) _ (c .before .before .item-at .ensures)
+    passed (takesNode (a .node .0)) (a .list .now) (l .at) (l .inv) (c .before .before .before .loop-test .taken) _ (c .before .before .subobject-at .ensures)
     (sym (c .before .takes-node .ensures (a .list .now)) ∙ c .if1 .left)
 
 returns-2 : tie.Need-returns-2 Inv-loop μ-loop
@@ -62,7 +62,7 @@ excludes-node-spec =
     Inv-loop
     μ-loop
     loop-holds
-    item-at-requires
+    subobject-at-requires
     takes-node-requires
     returns
     loop-less

@@ -13,7 +13,7 @@ use Rattle.model.specs.Sequence as M
 use Rattle.laws.proofs.Walk.{formLeft, subobjectsLeft, form-whole, right-here, right-next}
 use Rattle.model.specs.Subobject.{subobjectVerdict, subobjectAt, lengthAt}
 use Rattle.subobject.specs.Items.{ItemIs}
-use Rattle.domain_list.specs.Reading.{stopsOf, stateOf, Sound, MeaningIs}
+use Rattle.sequence.specs.Reading.{stopsOf, stateOf, Sound, MeaningIs}
 use Rattle.subobject.proofs.FormLaws.{readable}
 use Rattle.domain_list.proofs.Includes.{read-here, read-passed, read-refused, read-end, read-start}
 use Rattle.domain_list.proofs.include.read_list.Statement.{statement}
@@ -42,8 +42,8 @@ meant c =
 here : (c : tie.In-loop Inv-loop μ-loop) → subobjectVerdict Include (c .before .before .before .before .before .args .list .now) (c .before .loop .at) ≡ Pass
 here c = right-here Include (c .before .before .before .before .before .args .list .now) (c .before .loop .at) (c .loop-test .taken) (c .before .loop .inv .2)
 
-item-is : (c : tie.After-item-at Inv-loop μ-loop) → ItemIs Include (c .before .before .before .before .before .before .args .list .now) (c .before .before .loop .at) (c .item-at .result)
-item-is c = c .item-at .ensures Include (here (c .before))
+item-is : (c : tie.After-subobject-at Inv-loop μ-loop) → ItemIs Include (c .before .before .before .before .before .before .args .list .now) (c .before .before .loop .at) (c .subobject-at .result)
+item-is c = c .subobject-at .ensures Include (here (c .before))
 
 stepped
     : (c : tie.After-read-item Inv-loop μ-loop)
@@ -52,7 +52,7 @@ stepped
     (M.areaNext (subobjectsLeft (c .before .before .before .before .before .before .before .before .args .list .now) (c .before .before .before .before .loop .at + lengthAt (c .before .before .before .before .before .before .before .before .args .list .now) (c .before .before .before .before .loop .at))))
 stepped c =
     (c .read-item .ensures) .means
-    ∙ read-here (domains (c .before .before .before .before .before .before .before .before .args .profile .now)) (c .before .before .before .before .before .before .before .before .args .list .now) (c .before .before .before .before .loop .at) (stateOf (c .before .before .before .before .loop .st)) (c .before .before .item-at .result) (c .before .area-at .result)
+    ∙ read-here (domains (c .before .before .before .before .before .before .before .before .args .profile .now)) (c .before .before .before .before .before .before .before .before .args .list .now) (c .before .before .before .before .loop .at) (stateOf (c .before .before .before .before .loop .st)) (c .before .before .subobject-at .result) (c .before .area-at .result)
     (item-is (c .before .before)) (c .before .area-at .ensures)
 
 start-requires : tie.Need-start-requires Inv-loop μ-loop
@@ -67,8 +67,8 @@ loop-holds c =
       refl,
     )
 
-item-at-requires : tie.Need-item-at-requires Inv-loop μ-loop
-item-at-requires c κs = readable Include (c .before .before .before .before .before .args .list .now) (c .before .loop .at) (here c)
+subobject-at-requires : tie.Need-subobject-at-requires Inv-loop μ-loop
+subobject-at-requires c κs = readable Include (c .before .before .before .before .before .args .list .now) (c .before .loop .at) (here c)
 
 area-at-requires : tie.Need-area-at-requires Inv-loop μ-loop
 area-at-requires c κs = tt
@@ -144,7 +144,7 @@ read-list-spec =
     μ-loop
     start-requires
     loop-holds
-    item-at-requires
+    subobject-at-requires
     area-at-requires
     read-item-requires
     enum-known-verdict

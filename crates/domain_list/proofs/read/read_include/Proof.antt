@@ -7,11 +7,11 @@ use Rattle.model.specs.Profile.{domains}
 use Rattle.model.specs.Request.{provided}
 use Rattle.model.specs.Sequence as M
 use Rattle.model.specs.Calls.{readingOf}
-use Rattle.domain_list.specs.Reading.{stopsOf}
+use Rattle.sequence.specs.Reading.{stopsOf}
 use Rattle.domain_list.specs.ReadInclude.{least3}
 use Rattle.domain_list.proofs.ReadChecks.{Passed, passed, whole-domains, short-areas}
 use Rattle.domain_list.proofs.ReadOutcomes.{checks-refused, checks-passed, outcome-refused, outcome-small, outcome-read, refused-is, read-is}
-use Rattle.domain_list.proofs.States.{length-stops}
+use Rattle.sequence.proofs.States.{length-stops}
 use borrow.Author.Needs.{needs}
 use Rattle.domain_list.proofs.read.read_include.Statement.{statement}
 use Rattle.domain_list.proofs.read.read_include.Tie as tie
