@@ -2,7 +2,7 @@
 use mathlib.Core.Path.{_≡_, refl, sym, ap, subst, _∙_}
 use mathlib.Core.Bool.{Bool, true, false, _&&_}
 use mathlib.Core.List.{List, [], _∷_, _++_, append-nil}
-use Prim.Native.Nat.{ℕ, zero, suc, _+_}
+use Prim.Native.Nat.{ℕ, zero, suc, _+_, _≤_, _<_}
 use native.Mathlib.Nat.{zero-add, add-suc, add-zero}
 use native.Mathlib.Numerals.{add-one}
 use native.Mathlib.Omega.{arith}
@@ -17,7 +17,7 @@ use Rattle.model.specs.Subobject.{Area}
 use Rattle.model.specs.Sequence.{noDomain, domainOf, hasArea, ofSystem, ofArea}
 use Rattle.laws.proofs.Lists.{keep-append, keep-agree, countFrom-mem}
 use Rattle.laws.proofs.Records.{length-domains, domain-at}
-use Rattle.sequence.specs.Found.{foundOf, foundAs, Hits, systemIs, areaIs}
+use Rattle.sequence.specs.Found.{foundOf, foundAs, systemIs, areaIs}
 
 pub count-snoc : (i n : ℕ) → countFrom i (suc n) ≡ countFrom i n ++ ((i + n) ∷ [])
 unfolding countFrom
@@ -26,51 +26,70 @@ count-snoc i (suc n) =
     ap {B = List ℕ} (λ (l : List ℕ). i ∷ l) (count-snoc (suc i) n)
     ∙ ap {B = List ℕ} (λ (m : ℕ). i ∷ countFrom (suc i) n ++ (m ∷ [])) (omega arith)
 
+-- how far a scan of the indexes below n is: of those below i so many pass the test, and the last one is known where there is just one
+pub record Hits (p : ℕ → Bool) (n i hits last : ℕ) : Type 0 where
+  pub reached : i ≤ n
+  pub most : hits ≤ i
+  pub small : last ≤ n
+  pub count : length (keep p (countFrom 0 i)) ≡ hits
+  pub only : hits ≡ 1 → keep p (countFrom 0 i) ≡ last ∷ []
+
 module _ (p : ℕ → Bool) where
-  kept : (i : ℕ) (b : Bool) → p i ≡ b → keep p (countFrom 0 (suc i)) ≡ keep p (countFrom 0 i) ++ keepIf b i []
+  kept : (i : ℕ) (b : Bool) → p i ≡ b → keep p (countFrom 0 (i + 1)) ≡ keep p (countFrom 0 i) ++ keepIf b i []
   unfolding keep
   kept i b e =
-      ap (keep p) (count-snoc 0 i)
+      ap (λ (n : ℕ). keep p (countFrom 0 n)) (add-one i)
+      ∙ ap (keep p) (count-snoc 0 i)
       ∙ keep-append p (countFrom 0 i) ((0 + i) ∷ [])
       ∙ ap (λ (m : ℕ). keep p (countFrom 0 i) ++ keepIf (p m) m []) (zero-add i)
       ∙ ap (λ (c : Bool). keep p (countFrom 0 i) ++ keepIf c i []) e
-
-  pub hits-none : (last : ℕ) → Hits p 0 0 last
-  unfolding keep countFrom
-  hits-none last = record { count = refl; only = λ e. absurd (omega arith) }
 
   empty : (xs : List ℕ) → length xs ≡ 0 → xs ≡ []
   empty [] e = refl
   empty (x ∷ xs) e = absurd (omega arith)
 
-  pub hits-more : (i hits last : ℕ) → p i ≡ true → Hits p i hits last → Hits p (suc i) (suc hits) i
-  hits-more i hits last e h =
-      record {
-        count = ap length (kept i true e) ∙ length-append (keep p (countFrom 0 i)) (i ∷ []) ∙ ap (λ (n : ℕ). n + 1) (h .count) ∙ add-one hits;
-        only = λ one. kept i true e ∙ ap (λ (xs : List ℕ). xs ++ (i ∷ [])) (empty (keep p (countFrom 0 i)) (h .count ∙ (omega arith)));
-      }
+  pub hits-none : (n : ℕ) → Hits p n 0 0 0
+  unfolding keep countFrom
+  hits-none n = record { reached = omega arith; most = omega arith; small = omega arith; count = refl; only = λ e. absurd (omega arith) }
 
-  pub hits-same : (i hits last : ℕ) → p i ≡ false → Hits p i hits last → Hits p (suc i) hits last
-  hits-same i hits last e h =
-      let same = kept i false e ∙ append-nil (keep p (countFrom 0 i)) in
-      record { count = ap length same ∙ h .count; only = λ one. same ∙ h .only one }
+  -- one index more, as a loop makes it
+  module _ (n i hits last hits′ last′ : ℕ) (h : Hits p n i hits last) (below : i < n) where
+    pub next-hit : p i ≡ true → hits′ ≡ hits + 1 → last′ ≡ i → Hits p n (i + 1) hits′ last′
+    next-hit e a b =
+        record {
+          reached = omega arith;
+          most = omega (arith, h .most);
+          small = omega arith;
+          count = ap length (kept i true e) ∙ length-append (keep p (countFrom 0 i)) (i ∷ []) ∙ ap (λ (m : ℕ). m + 1) (h .count) ∙ sym a;
+          only =
+              λ one.
+              kept i true e
+              ∙ ap (λ (xs : List ℕ). xs ++ (i ∷ [])) (empty (keep p (countFrom 0 i)) (h .count ∙ omega arith))
+              ∙ ap {B = List ℕ} (λ (m : ℕ). m ∷ []) (sym b);
+        }
 
-  -- the two steps as a loop makes them
-  pub next-hit : (i hits last hits′ last′ : ℕ) → p i ≡ true → hits′ ≡ hits + 1 → last′ ≡ i → Hits p i hits last → Hits p (i + 1) hits′ last′
-  next-hit i hits last hits′ last′ e a b h = rw (a, b, add-one i, add-one hits) (hits-more i hits last e h)
+    pub next-miss : p i ≡ false → hits′ ≡ hits → last′ ≡ last → Hits p n (i + 1) hits′ last′
+    next-miss e a b =
+        let same = kept i false e ∙ append-nil (keep p (countFrom 0 i)) in
+        record {
+          reached = omega arith;
+          most = omega (arith, h .most);
+          small = omega (arith, h .small);
+          count = ap length same ∙ h .count ∙ sym a;
+          only = λ one. same ∙ h .only (sym a ∙ one) ∙ ap {B = List ℕ} (λ (m : ℕ). m ∷ []) (sym b);
+        }
 
-  pub next-miss : (i hits last hits′ last′ : ℕ) → p i ≡ false → hits′ ≡ hits → last′ ≡ last → Hits p i hits last → Hits p (i + 1) hits′ last′
-  next-miss i hits last hits′ last′ e a b h = rw (a, b, add-one i) (hits-same i hits last e h)
+  found-as : (xs : List ℕ) (hits last : ℕ) → length xs ≡ hits → (hits ≡ 1 → xs ≡ last ∷ []) → foundAs hits last ≡ foundOf xs
+  found-as xs zero last e only = ap foundOf (sym (empty xs e))
+  found-as xs (suc zero) last e only = ap foundOf (sym (only refl))
+  found-as [] (suc (suc n)) last e only = absurd (omega arith)
+  found-as (x ∷ []) (suc (suc n)) last e only = absurd (omega arith)
+  found-as (x ∷ y ∷ ys) (suc (suc n)) last e only = refl
 
-  pub hits-found : (i hits last : ℕ) → Hits p i hits last → foundAs hits last ≡ foundOf (keep p (countFrom 0 i))
-  hits-found i zero last h = ap foundOf (sym (empty (keep p (countFrom 0 i)) (h .count)))
-  hits-found i (suc zero) last h = ap foundOf (sym (h .only refl))
-  hits-found i (suc (suc n)) last h = several (keep p (countFrom 0 i)) (h .count)
-    where
-      several : (xs : List ℕ) → length xs ≡ suc (suc n) → foundAs (suc (suc n)) last ≡ foundOf xs
-      several [] e = absurd (omega arith)
-      several (x ∷ []) e = absurd (omega arith)
-      several (x ∷ y ∷ ys) e = refl
+  pub hits-found : (n i hits last : ℕ) → n ≤ i → Hits p n i hits last → foundAs hits last ≡ foundOf (keep p (countFrom 0 n))
+  hits-found n i hits last end h =
+      found-as (keep p (countFrom 0 i)) hits last (h .count) (h .only)
+      ∙ ap (λ (m : ℕ). foundOf (keep p (countFrom 0 m))) (omega (arith, h .reached))
 
 -- ---- the domains that `model` names are those that a scan of the records finds
 

@@ -1,11 +1,9 @@
 -- What a scan of the domain records finds: no domain, one, or several.
-use mathlib.Core.Path.{_≡_}
 use mathlib.Core.Bool.{Bool, _&&_}
 use mathlib.Core.List.{List, [], _∷_}
 use Prim.Native.Nat.{ℕ, zero, suc, _≤_, _<_}
 use lib.ListN.{length}
 use lib.Dec.{eqb}
-use Rattle.model.specs.Lists.{countFrom, keep}
 use Rattle.model.specs.Profile.{domainCount, domainStart, domainAt}
 use Rattle.model.specs.Subobject.{Area}
 use Rattle.model.specs.Sequence.{hasArea}
@@ -29,11 +27,6 @@ pub record WholeDomains (s : List ℕ) : Type 0 where
   pub header : 12 ≤ length s
   pub whole : domainStart (domainCount s) ≤ length s
   pub few : domainCount s ≤ 64
-
--- of the indexes below i those that pass the test are so many, and the last one is known where there is just one
-pub record Hits (p : ℕ → Bool) (i hits last : ℕ) : Type 0 where
-  pub count : length (keep p (countFrom 0 i)) ≡ hits
-  pub only : hits ≡ 1 → keep p (countFrom 0 i) ≡ last ∷ []
 
 -- a domain record is of this AS
 abbrev pub systemIs : List ℕ → ℕ → ℕ → Bool
