@@ -1,6 +1,7 @@
 // The library that a user links: the public calls under C names. Each returns document 01's number and stores the other numbers in `numbers`.
 use domain_list::read::read_include;
 use list_writer::writer::write_list;
+use model::DomainIndex;
 use model::ProfileAnswer;
 use model::ReadAnswer;
 use model::WriteAnswer;
@@ -40,7 +41,14 @@ pub extern "C" fn yq_read_include(
 ) -> u32
     ensures { λ r. ⌜ ReadExport (now (profile .entry)) ingress (now (include .entry)) (now (domains .entry)) (now (pinned .entry)) (now (pins .entry)) r (now (numbers .exit)) (now (domains .exit)) (now (pinned .exit)) (now (pins .exit)) ⌝ }
 {
-    let answer = read_include(profile, ingress, include, domains, pinned, pins);
+    let answer = read_include(
+        profile,
+        DomainIndex(ingress),
+        include,
+        domains,
+        pinned,
+        pins,
+    );
     match answer {
         ReadAnswer::Read { count } => {
             *numbers = [0, count];

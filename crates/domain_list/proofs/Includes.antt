@@ -16,11 +16,12 @@ use Rattle.model.specs.Lists.{countFrom}
 use Rattle.model.specs.Subobject.{Subobject, prefix, system, area, subobjectAt, subobjectsFrom, typeAt, lengthAt, areaLengthAt, namedAt}
 use Rattle.model.specs.Sequence as M
 use Rattle.model.specs.declared.Domain.{Domain}
+use Rattle.model.specs.declared.DomainIndex.{DomainIndex}
 use Rattle.model.specs.Profile.{domainAt, domainCount, domainStart, domains}
 use Rattle.laws.proofs.Records.{domain-at}
-use Rattle.domain_list.specs.declared.state.State.{State}
-use Rattle.domain_list.specs.declared.state.Waiting.the-variants.{Nothing}
-use Rattle.domain_list.specs.Reading.{stopsOf, Clean, Sound, StateIs}
+use Rattle.sequence.specs.declared.state.State.{State}
+use Rattle.sequence.specs.declared.state.Waiting.the-variants.{Nothing}
+use Rattle.sequence.specs.Reading.{nodeIn, stopsOf, Clean, Sound, StateIs}
 use Rattle.laws.proofs.Walk.{formLeft, subobjectsLeft, subobjects-end, subobjects-step, subobjects-next, subobjects-whole}
 use Rattle.model.specs.declared.Refusal.{Refusal}
 use Rattle.model.specs.declared.ListKind.the-variants.{Include}
@@ -71,13 +72,18 @@ area-end s at h = sym (ap M.areaNext (subobjects-end (length s - at) s at h))
 
 -- ---- where the reading starts
 
-abbrev zeros : List ℕ
-zeros = replicate 16 0
+abbrev first : ℕ → DomainIndex → State
+first asn d =
+    record {
+      asn = asn;
+      count = 1;
+      domains = set (replicate 16 (record { 0 = 0 })) 0 d;
+      pinned = replicate 16 0;
+      pins = replicate 16 (record { 0 = 0 });
+      waiting = Nothing;
+    }
 
-abbrev first : ℕ → ℕ → State
-first asn d = record { asn = asn; count = 1; domains = set zeros 0 d; pinned = zeros; pins = zeros; waiting = Nothing }
-
-first-sound : (asn d : ℕ) → Sound (first asn d)
+first-sound : (asn : ℕ) (d : DomainIndex) → Sound (first asn d)
 first-sound asn d =
     record {
       some-domain = omega arith;
@@ -88,18 +94,18 @@ first-sound asn d =
       clean = λ i h. only i h;
     }
   where
-    only : (i : ℕ) → i < 1 → Clean (getD zeros i 0) (getD zeros i 0)
+    only : (i : ℕ) → i < 1 → Clean (getD (first asn d .pinned) i 0) (nodeIn (first asn d .pins) i)
     only zero h = (refl, refl)
     only (suc i) h = absurd (omega arith)
 
 pub started
-    : (s : List ℕ) (d x : ℕ) → d < domainCount s → x ≡ number 4 s (domainStart d)
-    → StateIs (first x d) (M.startIn (domains s) d)
+    : (s : List ℕ) (d : DomainIndex) (x : ℕ) → d .0 < domainCount s → x ≡ number 4 s (domainStart (d .0))
+    → StateIs (first x d) (M.startIn (domains s) (d .0))
 unfolding stopsOf countFrom domainAt
 started s d x h e =
-    let asn : x ≡ (M.domainOf (domains s) d) .asn = e ∙ sym (ap (λ (r : Domain). r .asn) (domain-at s d M.noDomain h)) in
+    let asn : x ≡ (M.domainOf (domains s) (d .0)) .asn = e ∙ sym (ap (λ (r : Domain). r .asn) (domain-at s (d .0) M.noDomain h)) in
     record {
-      means = λ k. record { asn = asn k; here = d; sequence = record { domain = d; pin = none } ∷ []; waiting = none };
+      means = λ k. record { asn = asn k; here = d .0; sequence = record { domain = d .0; pin = none } ∷ []; waiting = none };
       sound = first-sound x d;
     }
 

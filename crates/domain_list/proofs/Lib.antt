@@ -1,7 +1,5 @@
-pub mod Exclusions
-pub mod Hits
-pub mod States
 pub mod Includes
 pub mod Copies
+pub mod SequenceCopies
 pub mod ReadChecks
 pub mod ReadOutcomes

@@ -1,27 +1,22 @@
--- What `read_include` has to answer and leave, by how the reading ends: refused, too little capacity, or a sequence whose parts are those of the state's arrays.
-use mathlib.Core.Path.{_≡_, refl, sym, ap, subst, _∙_}
-use mathlib.Core.List.{List, [], _∷_, map}
+-- What `read_include` has to answer and leave, by how the reading ends: refused, too little capacity, or a sequence in the buffers.
+use mathlib.Core.Path.{_≡_, refl, sym, ap, _∙_}
+use mathlib.Core.List.{List, map}
 use Prim.Native.Nat.{ℕ, min, _≤_, _<_}
-use native.Mathlib.Omega.{arith}
-use lib.ListN.{length, getD, take}
+use lib.ListN.{length}
 use borrow.Author.Tests.{lt-ltb, le-ltb}
 use Rattle.model.specs.declared.Refusal.{Refusal}
 use Rattle.model.specs.declared.Verdict.{Verdict}
 use Rattle.model.specs.declared.Verdict.the-variants.{Pass, Refuse}
 use Rattle.model.specs.declared.ReadAnswer.{ReadAnswer}
 use Rattle.model.specs.declared.ReadAnswer.the-variants.{Read, Refused}
-use Rattle.model.specs.Lists.{countFrom, over}
+use Rattle.model.specs.Lists.{over}
 use Rattle.model.specs.Profile.{domains}
 use Rattle.model.specs.Sequence as M
 use Rattle.model.specs.Request.{provided}
 use Rattle.model.specs.Answers.{refused2, done2}
 use Rattle.model.specs.Calls.{Outcome, nothing, roomVerdict, answerRead, readInto, readingOf, readInclude, pinMark, pinNode}
-use Rattle.laws.proofs.Lists.{over-nothing, countFrom-mem}
-use Rattle.laws.proofs.ProfileLists.{taken-by-index}
-use Rattle.domain_list.specs.declared.state.State.{State}
-use Rattle.domain_list.specs.Reading.{stopOf, stopsOf, Sound}
-use Rattle.domain_list.specs.ReadInclude.{readVerdict, least3, ReadIs}
-use Rattle.domain_list.proofs.States.{map-agree}
+use Rattle.laws.proofs.Lists.{over-nothing}
+use Rattle.domain_list.specs.ReadInclude.{readVerdict, least3, SequenceIn, ReadIs}
 
 -- ---- how the reading ends
 
@@ -65,40 +60,14 @@ module _ (P : List ℕ) (i : ℕ) (L D M′ N : List ℕ) where
       : (seq : List M.Stop) (n : ℕ) (ds ms ns : List ℕ)
       → readInclude P i L (least3 D M′ N) ≡ record { numbers = done2 (length seq); written = seq }
       → n ≡ length seq
-      → ds ≡ over (map (λ (p : M.Stop). p .domain) seq) D
-      → ms ≡ over (map (λ (p : M.Stop). pinMark (p .pin)) seq) M′
-      → ns ≡ over (map (λ (p : M.Stop). pinNode (p .pin)) seq) N
+      → SequenceIn seq D M′ N ds ms ns
       → ReadIs P i L D M′ N (Read n) ds ms ns
-  read-is seq n ds ms ns e q d m k =
+  read-is seq n ds ms ns e q in-buffers =
       let put : (f : M.Stop → ℕ) (old : List ℕ) → over (map f seq) old ≡ over (map f ((readInclude P i L (least3 D M′ N)) .written)) old =
       λ f old. sym (ap (λ (o : Outcome M.Stop). over (map f (o .written)) old) e) in
       record {
         numbers = ap done2 q ∙ sym (ap (λ (o : Outcome M.Stop). o .numbers) e);
-        in-domains = d ∙ put (λ (p : M.Stop). p .domain) D;
-        in-marks = m ∙ put (λ (p : M.Stop). pinMark (p .pin)) M′;
-        in-nodes = k ∙ put (λ (p : M.Stop). pinNode (p .pin)) N;
+        in-domains = in-buffers .in-domains ∙ put (λ (p : M.Stop). p .domain) D;
+        in-marks = in-buffers .in-marks ∙ put (λ (p : M.Stop). pinMark (p .pin)) M′;
+        in-nodes = in-buffers .in-nodes ∙ put (λ (p : M.Stop). pinNode (p .pin)) N;
       }
-
--- ---- the arrays of a sound state hold the parts of its sequence
-
-map-map : {A B C : Type 0} (g : B → C) (f : A → B) (xs : List A) → map g (map f xs) ≡ map (λ (x : A). g (f x)) xs
-map-map g f [] = refl
-map-map {C = C} g f (x ∷ xs) = ap {B = List C} (λ (r : List C). g (f x) ∷ r) (map-map g f xs)
-
-module _ (st : State) (sound : Sound st) where
-  part-of : (f : M.Stop → ℕ) (xs : List ℕ) → length xs ≡ 16 → ((i : ℕ) → i < st .count → f (stopOf st i) ≡ getD xs i 0) → take (st .count) xs ≡ map f (stopsOf st)
-  unfolding stopsOf
-  part-of f xs long same =
-      sym
-      (map-map f (stopOf st) (countFrom 0 (st .count))
-      ∙ map-agree (λ (i : ℕ). f (stopOf st i)) (λ (i : ℕ). getD xs i 0) (countFrom 0 (st .count)) (λ i m. same i (omega (arith, countFrom-mem 0 (st .count) m .1)))
-      ∙ taken-by-index xs (st .count) (omega (arith, sound .most)))
-
-  pub domains-part : take (st .count) (st .domains) ≡ map (λ (p : M.Stop). p .domain) (stopsOf st)
-  domains-part = part-of (λ (p : M.Stop). p .domain) (st .domains) (sound .domains-long) (λ i h. refl)
-
-  pub marks-part : take (st .count) (st .pinned) ≡ map (λ (p : M.Stop). pinMark (p .pin)) (stopsOf st)
-  marks-part = part-of (λ (p : M.Stop). pinMark (p .pin)) (st .pinned) (sound .pinned-long) (λ i h. sound .clean i h .0)
-
-  pub nodes-part : take (st .count) (st .pins) ≡ map (λ (p : M.Stop). pinNode (p .pin)) (stopsOf st)
-  nodes-part = part-of (λ (p : M.Stop). pinNode (p .pin)) (st .pins) (sound .pins-long) (λ i h. sound .clean i h .1)

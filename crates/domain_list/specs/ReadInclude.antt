@@ -27,6 +27,12 @@ readVerdict profile ingress list =
 abbrev pub least3 : List ℕ → List ℕ → List ℕ → ℕ
 least3 a b c = min (length a) (min (length b) (length c))
 
+-- each buffer has its part of a sequence at its start and its own rest after it
+pub record SequenceIn (sequence : List Stop) (domains marks nodes domains′ marks′ nodes′ : List ℕ) : Type 0 where
+  pub in-domains : domains′ ≡ over (map (λ (p : Stop). p .domain) sequence) domains
+  pub in-marks : marks′ ≡ over (map (λ (p : Stop). pinMark (p .pin)) sequence) marks
+  pub in-nodes : nodes′ ≡ over (map (λ (p : Stop). pinNode (p .pin)) sequence) nodes
+
 -- the numbers are those of `readInclude`, and each buffer has its part of the sequence at its start and its own rest after it
 pub record ReadIs (profile : List ℕ) (ingress : ℕ) (list domains marks nodes : List ℕ) (r : ReadAnswer) (domains′ marks′ nodes′ : List ℕ) : Type 0 where
   pub numbers : numbersOfRead r ≡ (readInclude profile ingress list (least3 domains marks nodes)) .numbers

@@ -1,17 +1,19 @@
 // The meaning of an include list of right form on an accepted profile: its sequence of domains and their entry constraints, or its refusal (28 to 32).
-use crate::find::of_area;
-use crate::find::of_system;
-use crate::state::State;
-use crate::state::Stepped;
-use crate::state::Waiting;
-use crate::state::name_found;
-use crate::state::wait_for;
-use crate::state::with_asn;
+use model::DomainIndex;
+use model::NodeAddress;
 use model::Refusal;
 use model::Verdict;
+use sequence::find::of_area;
+use sequence::find::of_system;
+use sequence::state::State;
+use sequence::state::Stepped;
+use sequence::state::Waiting;
+use sequence::state::name_found;
+use sequence::state::wait_for;
+use sequence::state::with_asn;
 use subobject::item::Item;
 use subobject::item::Named;
-use subobject::item::item_at;
+use subobject::walk::subobject_at;
 use wire::u32_at;
 ghost use mathlib.Core.Path.{_≡_};
 ghost use Prim.Native.Nat.{_≤_, _<_};
@@ -23,8 +25,8 @@ ghost use Rattle.model.specs.Subobject.{formVerdict};
 ghost use Rattle.model.specs.Sequence.{readSystem, readNamed, areaNext, startIn, finish, meaning};
 ghost use Rattle.laws.proofs.Walk.{subobjectsLeft};
 ghost use Rattle.subobject.specs.Items.{namedOf, AreaInside};
-ghost use Rattle.domain_list.specs.Found.{WholeDomains, ShortAreas};
-ghost use Rattle.domain_list.specs.Reading.{stateOf, waitingOf, Sound, StateIs, SteppedIs, MeaningIs};
+ghost use Rattle.sequence.specs.Found.{WholeDomains, ShortAreas};
+ghost use Rattle.sequence.specs.Reading.{stateOf, waitingOf, Sound, StateIs, SteppedIs, MeaningIs};
 
 // An AS becomes current; unless an area follows at once it names its only domain.
 fn read_system(profile: &[u8], st: State, at: usize, asn: u32, follows: bool) -> Stepped
@@ -50,7 +52,7 @@ fn read_item(profile: &[u8], list: &[u8], st: State, item: Item, follows: bool) 
     let at = item.offset;
     let named = item.named;
     match named {
-        Named::Prefix { address, bits: _ } => wait_for(st, at, address.0),
+        Named::Prefix { address, bits: _ } => wait_for(st, at, address),
         Named::System { asn } => read_system(profile, st, at, asn, follows),
         Named::Area { kind, start, count } => {
             let found = of_area(profile, st.asn, list, kind, start, count);
@@ -74,19 +76,19 @@ fn area_at(list: &[u8], at: usize) -> bool
 }
 
 // The reading starts in the ingress domain, with its AS as current.
-fn start(profile: &[u8], ingress: u16) -> State
-    requires { ⌜ WholeDomains (now profile) × (ingress < domainCount (now profile)) ⌝ }
-    ensures { λ r. ⌜ StateIs r (startIn (domains (now (profile .entry))) ingress) ⌝ }
+fn start(profile: &[u8], ingress: DomainIndex) -> State
+    requires { ⌜ WholeDomains (now profile) × (ingress .0 < domainCount (now profile)) ⌝ }
+    ensures { λ r. ⌜ StateIs r (startIn (domains (now (profile .entry))) (ingress .0)) ⌝ }
 {
-    let i = ingress as usize;
-    let mut domains = [0u16; 16];
+    let i = ingress.0 as usize;
+    let mut domains = [DomainIndex(0); 16];
     domains[0] = ingress;
     State {
         asn: u32_at(profile, 12 + 20 * i),
         count: 1,
         domains,
         pinned: [0u8; 16],
-        pins: [0u32; 16],
+        pins: [NodeAddress(0); 16],
         waiting: Waiting::Nothing,
     }
 }
@@ -113,15 +115,15 @@ fn finished(st: State) -> Stepped
 }
 
 // The whole list, subobject by subobject.
-pub fn read_list(profile: &[u8], ingress: u16, list: &[u8]) -> Stepped
-    requires { ⌜ WholeDomains (now profile) × ShortAreas (now profile) × (ingress < domainCount (now profile)) ⌝ }
+pub fn read_list(profile: &[u8], ingress: DomainIndex, list: &[u8]) -> Stepped
+    requires { ⌜ WholeDomains (now profile) × ShortAreas (now profile) × (ingress .0 < domainCount (now profile)) ⌝ }
     requires { ⌜ (length (now list) ≤ 1024) × (formVerdict Include (now list) ≡ Pass) ⌝ }
-    ensures { λ r. ⌜ MeaningIs r (meaning (domains (now (profile .entry))) ingress (now (list .entry))) ⌝ }
+    ensures { λ r. ⌜ MeaningIs r (meaning (domains (now (profile .entry))) (ingress .0) (now (list .entry))) ⌝ }
 {
     let mut st = start(profile, ingress);
     let mut at: usize = 0;
     while at < list.len() {
-        let item = item_at(list, at);
+        let item = subobject_at(list, at);
         let next = item.next;
         let stepped = read_item(profile, list, st, item, area_at(list, next));
         let verdict = stepped.verdict;

@@ -1,6 +1,3 @@
-// Domain lists: what the subobjects of an include or exclude list say, and what they mean on a profile.
-pub mod exclusion;
-pub mod find;
+// What an include list means on a profile: its sequence of domains and their entry constraints, or its refusal.
 pub mod include;
 pub mod read;
-pub mod state;

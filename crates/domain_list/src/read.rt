@@ -1,63 +1,43 @@
 // `read_include`: the checks in document 01's order, the meaning of the list, and its sequence in the lent buffers.
 use crate::include::read_list;
+use model::DomainIndex;
 use model::ListKind;
 use model::ReadAnswer;
 use model::Refusal;
 use model::Verdict;
 use profile::header::domain_count;
 use profile::verdict_on;
+use sequence::state::State;
 use subobject::form::form;
 ghost use mathlib.Core.Path.{_≡_};
 ghost use Prim.Native.Nat.{_≤_, min};
-ghost use lib.ListN.{length, take};
-ghost use Rattle.model.specs.Lists.{over};
-ghost use Rattle.domain_list.specs.ReadInclude.{readVerdict, ReadIs};
+ghost use Rattle.sequence.specs.Reading.{stopsOf, Sound};
+ghost use Rattle.domain_list.specs.ReadInclude.{readVerdict, least3, SequenceIn, ReadIs};
 
-// The first n of the domains, at the start of a lent buffer.
-fn copy_domains(from: [u16; 16], n: usize, to: &mut [u16])
-    requires { ⌜ (n ≤ 16) × (length from ≡ 16) × (n ≤ length (now to)) ⌝ }
-    ensures { λ _. ⌜ now (to .exit) ≡ over (take n from) (now (to .entry)) ⌝ }
+// The sequence at the start of the lent buffers.
+fn copy_sequence(st: State, domains: &mut [u16], pinned: &mut [u8], pins: &mut [u32])
+    requires { ⌜ Sound st × (st .count ≤ least3 (now domains) (now pinned) (now pins)) ⌝ }
+    ensures { λ _. ⌜ SequenceIn (stopsOf st) (now (domains .entry)) (now (pinned .entry)) (now (pins .entry)) (now (domains .exit)) (now (pinned .exit)) (now (pins .exit)) ⌝ }
 {
+    let n = st.count;
     let mut i: usize = 0;
     while i < n {
-        to[i] = from[i];
-        i += 1;
-    }
-}
-
-// The same for the marks.
-fn copy_marks(from: [u8; 16], n: usize, to: &mut [u8])
-    requires { ⌜ (n ≤ 16) × (length from ≡ 16) × (n ≤ length (now to)) ⌝ }
-    ensures { λ _. ⌜ now (to .exit) ≡ over (take n from) (now (to .entry)) ⌝ }
-{
-    let mut i: usize = 0;
-    while i < n {
-        to[i] = from[i];
-        i += 1;
-    }
-}
-
-// The same for the nodes.
-fn copy_nodes(from: [u32; 16], n: usize, to: &mut [u32])
-    requires { ⌜ (n ≤ 16) × (length from ≡ 16) × (n ≤ length (now to)) ⌝ }
-    ensures { λ _. ⌜ now (to .exit) ≡ over (take n from) (now (to .entry)) ⌝ }
-{
-    let mut i: usize = 0;
-    while i < n {
-        to[i] = from[i];
+        domains[i] = st.domains[i].0;
+        pinned[i] = st.pinned[i];
+        pins[i] = st.pins[i].0;
         i += 1;
     }
 }
 
 // The checks before the meaning: the profile, 20, 22 and the form of the list.
-fn read_verdict(profile: &[u8], ingress: u16, list: &[u8]) -> Verdict
-    ensures { λ r. ⌜ r ≡ readVerdict (now (profile .entry)) ingress (now (list .entry)) ⌝ }
+fn read_verdict(profile: &[u8], ingress: DomainIndex, list: &[u8]) -> Verdict
+    ensures { λ r. ⌜ r ≡ readVerdict (now (profile .entry)) (ingress .0) (now (list .entry)) ⌝ }
 {
     let v = verdict_on(profile);
     if let Verdict::Refuse(r) = v {
         return Verdict::Refuse(r);
     }
-    if domain_count(profile) <= ingress {
+    if domain_count(profile) <= ingress.0 {
         return Verdict::Refuse(Refusal {
             number: 20,
             place: 0,
@@ -91,13 +71,13 @@ fn least(a: usize, b: usize, c: usize) -> usize
 // The sequence of domains and entry constraints that an include list asks for. On a refusal the lent buffers keep their bytes.
 pub fn read_include(
     profile: &[u8],
-    ingress: u16,
+    ingress: DomainIndex,
     list: &[u8],
     domains: &mut [u16],
     pinned: &mut [u8],
     pins: &mut [u32],
 ) -> ReadAnswer
-    ensures { λ r. ⌜ ReadIs (now (profile .entry)) ingress (now (list .entry)) (now (domains .entry)) (now (pinned .entry)) (now (pins .entry)) r (now (domains .exit)) (now (pinned .exit)) (now (pins .exit)) ⌝ }
+    ensures { λ r. ⌜ ReadIs (now (profile .entry)) (ingress .0) (now (list .entry)) (now (domains .entry)) (now (pinned .entry)) (now (pins .entry)) r (now (domains .exit)) (now (pinned .exit)) (now (pins .exit)) ⌝ }
 {
     let v = read_verdict(profile, ingress, list);
     if let Verdict::Refuse(r) = v {
@@ -116,11 +96,6 @@ pub fn read_include(
             place: 0,
         });
     }
-    let ds = st.domains;
-    copy_domains(ds, n, domains);
-    let ms = st.pinned;
-    copy_marks(ms, n, pinned);
-    let ns = st.pins;
-    copy_nodes(ns, n, pins);
+    copy_sequence(st, domains, pinned, pins);
     ReadAnswer::Read { count: n as u32 }
 }

@@ -1,8 +1,8 @@
 -- `include::finished` meets its contract: each arm is a case of `finish`.
 use mathlib.Core.Path.{_≡_, refl, sym, ap}
 use Rattle.model.specs.Sequence as M
-use Rattle.domain_list.specs.declared.state.Waiting.{Waiting}
-use Rattle.domain_list.specs.Reading.{waitingOf, stateOf}
+use Rattle.sequence.specs.declared.state.Waiting.{Waiting}
+use Rattle.sequence.specs.Reading.{waitingOf, stateOf}
 use borrow.Author.Needs.{needs}
 use Rattle.domain_list.proofs.include.finished.Statement.{statement}
 use Rattle.domain_list.proofs.include.finished.Tie as tie

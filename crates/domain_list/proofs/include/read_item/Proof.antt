@@ -5,8 +5,8 @@ use Rattle.model.specs.Bytes.{part}
 use Rattle.model.specs.Sequence as M
 use Rattle.subobject.specs.declared.item.Named.{Named}
 use Rattle.subobject.specs.Items.{namedOf, AreaInside}
-use Rattle.domain_list.specs.Reading.{stateOf, SteppedIs, nameFound}
-use Rattle.domain_list.proofs.States.{named-found}
+use Rattle.sequence.specs.Reading.{stateOf, SteppedIs, nameFound}
+use Rattle.sequence.proofs.States.{named-found}
 use borrow.Author.Needs.{needs}
 use Rattle.domain_list.proofs.include.read_item.Statement.{statement}
 use Rattle.domain_list.proofs.include.read_item.Tie as tie

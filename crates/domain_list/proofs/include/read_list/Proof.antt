@@ -13,28 +13,37 @@ use Rattle.model.specs.Sequence as M
 use Rattle.laws.proofs.Walk.{formLeft, subobjectsLeft, form-whole, right-here, right-next}
 use Rattle.model.specs.Subobject.{subobjectVerdict, subobjectAt, lengthAt}
 use Rattle.subobject.specs.Items.{ItemIs}
-use Rattle.domain_list.specs.Reading.{stopsOf, stateOf, Sound, MeaningIs}
+use Rattle.sequence.specs.Reading.{stopsOf, stateOf, Sound, MeaningIs}
 use Rattle.subobject.proofs.FormLaws.{readable}
 use Rattle.domain_list.proofs.Includes.{read-here, read-passed, read-refused, read-end, read-start}
 use Rattle.domain_list.proofs.include.read_list.Statement.{statement}
 use Rattle.domain_list.proofs.include.read_list.Tie as tie
 
 abbrev Inv-loop : tie.InvT-loop
-Inv-loop profile ingress list st₀ at₀ st at =
+Inv-loop profile list st₀ at₀ st at =
     (at ≤ length list)
     × Sound st
     × (formLeft Include list at ≡ Pass)
-    × (M.readAll (domains profile) (subobjectsLeft list at) (stateOf st) ≡ M.meaning (domains profile) ingress list)
+    × (M.readAll (domains profile) (subobjectsLeft list at) (stateOf st) ≡ M.readAll (domains profile) (subobjectsLeft list 0) (stateOf st₀))
 
 abbrev μ-loop : tie.MeasureT-loop
-μ-loop profile ingress list st₀ at₀ st at = length list - at
+μ-loop profile list st₀ at₀ st at = length list - at
+
+-- what the whole list means is what its rest means, read from the state at hand
+meant
+    : (c : tie.At-loop Inv-loop μ-loop)
+    → M.readAll (domains (c .before .before .before .before .args .profile .now)) (subobjectsLeft (c .before .before .before .before .args .list .now) (c .loop .at)) (stateOf (c .loop .st))
+    ≡ M.meaning (domains (c .before .before .before .before .args .profile .now)) (c .before .before .before .before .args .ingress .0) (c .before .before .before .before .args .list .now)
+meant c =
+    let a = c .before .before .before .before .args in
+    c .loop .inv .3 ∙ read-start (domains (a .profile .now)) (a .list .now) (a .ingress .0) (stateOf (c .before .start .result)) ((c .before .start .ensures) .means)
 
 -- what is known in a turn: the subobject is right, and the step taken is the one of `readOne`
 here : (c : tie.In-loop Inv-loop μ-loop) → subobjectVerdict Include (c .before .before .before .before .before .args .list .now) (c .before .loop .at) ≡ Pass
 here c = right-here Include (c .before .before .before .before .before .args .list .now) (c .before .loop .at) (c .loop-test .taken) (c .before .loop .inv .2)
 
-item-is : (c : tie.After-item-at Inv-loop μ-loop) → ItemIs Include (c .before .before .before .before .before .before .args .list .now) (c .before .before .loop .at) (c .item-at .result)
-item-is c = c .item-at .ensures Include (here (c .before))
+item-is : (c : tie.After-subobject-at Inv-loop μ-loop) → ItemIs Include (c .before .before .before .before .before .before .args .list .now) (c .before .before .loop .at) (c .subobject-at .result)
+item-is c = c .subobject-at .ensures Include (here (c .before))
 
 stepped
     : (c : tie.After-read-item Inv-loop μ-loop)
@@ -43,7 +52,7 @@ stepped
     (M.areaNext (subobjectsLeft (c .before .before .before .before .before .before .before .before .args .list .now) (c .before .before .before .before .loop .at + lengthAt (c .before .before .before .before .before .before .before .before .args .list .now) (c .before .before .before .before .loop .at))))
 stepped c =
     (c .read-item .ensures) .means
-    ∙ read-here (domains (c .before .before .before .before .before .before .before .before .args .profile .now)) (c .before .before .before .before .before .before .before .before .args .list .now) (c .before .before .before .before .loop .at) (stateOf (c .before .before .before .before .loop .st)) (c .before .before .item-at .result) (c .before .area-at .result)
+    ∙ read-here (domains (c .before .before .before .before .before .before .before .before .args .profile .now)) (c .before .before .before .before .before .before .before .before .args .list .now) (c .before .before .before .before .loop .at) (stateOf (c .before .before .before .before .loop .st)) (c .before .before .subobject-at .result) (c .before .area-at .result)
     (item-is (c .before .before)) (c .before .area-at .ensures)
 
 start-requires : tie.Need-start-requires Inv-loop μ-loop
@@ -55,11 +64,11 @@ loop-holds c =
       omega arith,
       (c .start .ensures) .sound,
       form-whole Include (a .list .now) ∙ c .before .before .before .pre .1 .1,
-      read-start (domains (a .profile .now)) (a .list .now) (a .ingress) (stateOf (c .start .result)) ((c .start .ensures) .means),
+      refl,
     )
 
-item-at-requires : tie.Need-item-at-requires Inv-loop μ-loop
-item-at-requires c κs = readable Include (c .before .before .before .before .before .args .list .now) (c .before .loop .at) (here c)
+subobject-at-requires : tie.Need-subobject-at-requires Inv-loop μ-loop
+subobject-at-requires c κs = readable Include (c .before .before .before .before .before .args .list .now) (c .before .loop .at) (here c)
 
 area-at-requires : tie.Need-area-at-requires Inv-loop μ-loop
 area-at-requires c κs = tt
@@ -83,7 +92,7 @@ returns c =
     record {
       means =
           sym
-          (sym (l .inv .3)
+          (sym (meant (c .before .before .before .before .before .before .before))
           ∙ read-refused (domains (a .profile .now)) (a .list .now) (l .at) (stateOf (l .st)) (c .before .before .before .before .before .before .loop-test .taken) (l .inv .2) _
           (sym (ap (λ (v : Verdict). provided v (M.good (stateOf (c .before .before .before .read-item .result .state)))) (c .before .verdict .given .1)) ∙ stepped (c .before .before .before)));
       sound = l .inv .1;
@@ -112,7 +121,7 @@ loop-again c =
       inside,
       (c .before .before .before .read-item .ensures) .sound,
       subst (λ (n : ℕ). formLeft Include s n ≡ Pass) (sym (is .next)) (right-next Include s (l .at) (c .before .before .before .before .before .before .loop-test .taken) (l .inv .2)),
-      subst (λ (n : ℕ). M.readAll ds (subobjectsLeft s n) (stateOf (c .before .before .before .read-item .result .state)) ≡ M.meaning ds (a .ingress) s) (sym (is .next))
+      subst (λ (n : ℕ). M.readAll ds (subobjectsLeft s n) (stateOf (c .before .before .before .read-item .result .state)) ≡ M.readAll ds (subobjectsLeft s 0) (stateOf (c .before .before .before .before .before .before .before .before .start .result))) (sym (is .next))
           (sym (read-passed ds s (l .at) (stateOf (l .st)) (c .before .before .before .before .before .before .loop-test .taken) (l .inv .2) _ on) ∙ l .inv .3),
     )
 
@@ -124,7 +133,7 @@ returns-2 c =
     let a = c .before .before .before .before .before .before .args in
     let l = c .before .before .loop in
     subst (MeaningIs (c .finished .result))
-    (read-end (domains (a .profile .now)) (a .list .now) (l .at) (stateOf (l .st)) (c .before .loop-test .left) ∙ l .inv .3)
+    (read-end (domains (a .profile .now)) (a .list .now) (l .at) (stateOf (l .st)) (c .before .loop-test .left) ∙ meant (c .before .before))
     (c .finished .ensures)
 
 pub read-list-spec : {M : Type 1} → statement M
@@ -135,7 +144,7 @@ read-list-spec =
     μ-loop
     start-requires
     loop-holds
-    item-at-requires
+    subobject-at-requires
     area-at-requires
     read-item-requires
     enum-known-verdict

@@ -2,8 +2,8 @@
 use mathlib.Core.Path.{_≡_, sym, ap, subst, _∙_}
 use Rattle.model.specs.Profile.{domains}
 use Rattle.model.specs.Sequence as M
-use Rattle.domain_list.specs.Reading.{stateOf, SteppedIs, nameFound}
-use Rattle.domain_list.proofs.States.{stepped-on, named-found}
+use Rattle.sequence.specs.Reading.{stateOf, SteppedIs, nameFound}
+use Rattle.sequence.proofs.States.{stepped-on, named-found}
 use borrow.Author.Needs.{needs}
 use Rattle.domain_list.proofs.include.read_system.Statement.{statement}
 use Rattle.domain_list.proofs.include.read_system.Tie as tie

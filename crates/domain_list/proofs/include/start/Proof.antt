@@ -4,8 +4,11 @@ use borrow.Author.Needs.{needs}
 use Rattle.domain_list.proofs.include.start.Statement.{statement}
 use Rattle.domain_list.proofs.include.start.Tie as tie
 
-array-write-domains : tie.Need-array-write-domains
-array-write-domains c = search needs
+cast-i : tie.Need-cast-i
+cast-i c = search needs
+
+array-set-from-domains : tie.Need-array-set-from-domains
+array-set-from-domains c = search needs
 
 mul-u32-at : tie.Need-mul-u32-at
 mul-u32-at c = search needs
@@ -18,8 +21,8 @@ u32-at-requires c κs = search needs
 
 returns : tie.Need-returns
 returns c =
-    let a = c .before .before .args in
-    started (a .profile .now) (a .ingress) _ (c .before .before .pre .1) (c .u32-at .ensures)
+    let a = c .before .before .before .args in
+    started (a .profile .now) (a .ingress) _ (c .before .before .before .pre .1) (c .u32-at .ensures)
 
 pub start-spec : {M : Type 1} → statement M
-start-spec = tie.close (tie.spec array-write-domains mul-u32-at add-u32-at u32-at-requires returns)
+start-spec = tie.close (tie.spec cast-i array-set-from-domains mul-u32-at add-u32-at u32-at-requires returns)

@@ -2,32 +2,30 @@
 use mathlib.Core.Path.{_≡_, refl, sym, ap, _∙_}
 use Prim.Native.Nat.{ℕ, _≤_, _<_}
 use native.Mathlib.Omega.{arith}
-use mathlib.Core.List.{List}
 use Rattle.model.specs.declared.Verdict.{Verdict}
-use Rattle.model.specs.Lists.{over}
 use Rattle.model.specs.Profile.{domains}
 use Rattle.model.specs.Request.{provided}
 use Rattle.model.specs.Sequence as M
 use Rattle.model.specs.Calls.{readingOf}
-use Rattle.domain_list.specs.Reading.{stopsOf}
+use Rattle.sequence.specs.Reading.{stopsOf}
 use Rattle.domain_list.specs.ReadInclude.{least3}
 use Rattle.domain_list.proofs.ReadChecks.{Passed, passed, whole-domains, short-areas}
-use Rattle.domain_list.proofs.ReadOutcomes.{checks-refused, checks-passed, outcome-refused, outcome-small, outcome-read, refused-is, read-is, domains-part, marks-part, nodes-part}
-use Rattle.domain_list.proofs.States.{length-stops}
+use Rattle.domain_list.proofs.ReadOutcomes.{checks-refused, checks-passed, outcome-refused, outcome-small, outcome-read, refused-is, read-is}
+use Rattle.sequence.proofs.States.{length-stops}
 use borrow.Author.Needs.{needs}
 use Rattle.domain_list.proofs.read.read_include.Statement.{statement}
 use Rattle.domain_list.proofs.read.read_include.Tie as tie
 
 -- the checks passed
-checked : (c : tie.After-enum-told) → Passed (c .before .before .before .before .before .before .before .before .args .profile .now) (c .before .before .before .before .before .before .before .before .args .ingress) (c .before .before .before .before .before .before .before .before .args .list .now)
-checked c = passed (c .before .before .before .before .before .before .before .before .args .profile .now) (c .before .before .before .before .before .before .before .before .args .ingress) (c .before .before .before .before .before .before .before .before .args .list .now) (sym (c .before .before .read-verdict .ensures) ∙ c .enum-told .given .1)
+checked : (c : tie.After-enum-told) → Passed (c .before .before .before .before .before .before .before .before .args .profile .now) (c .before .before .before .before .before .before .before .before .args .ingress .0) (c .before .before .before .before .before .before .before .before .args .list .now)
+checked c = passed (c .before .before .before .before .before .before .before .before .args .profile .now) (c .before .before .before .before .before .before .before .before .args .ingress .0) (c .before .before .before .before .before .before .before .before .args .list .now) (sym (c .before .before .read-verdict .ensures) ∙ c .enum-told .given .1)
 
 -- the list has a meaning: the sequence of the state
-sequence : (c : tie.After-enum-told2) → readingOf (c .before .before .before .before .before .before .before .before .before .before .before .args .profile .now) (c .before .before .before .before .before .before .before .before .before .before .before .args .ingress) (c .before .before .before .before .before .before .before .before .before .before .before .args .list .now) ≡ M.good (stopsOf (c .before .before .read-list .result .state))
+sequence : (c : tie.After-enum-told2) → readingOf (c .before .before .before .before .before .before .before .before .before .before .before .args .profile .now) (c .before .before .before .before .before .before .before .before .before .before .before .args .ingress .0) (c .before .before .before .before .before .before .before .before .before .before .before .args .list .now) ≡ M.good (stopsOf (c .before .before .read-list .result .state))
 sequence c =
     let a = c .before .before .before .before .before .before .before .before .before .before .before .args in
     let read = c .before .before .read-list in
-    checks-passed (a .profile .now) (a .ingress) (a .list .now) (M.good (stopsOf (read .result .state)))
+    checks-passed (a .profile .now) (a .ingress .0) (a .list .now) (M.good (stopsOf (read .result .state)))
     (sym (c .before .before .before .before .before .read-verdict .ensures) ∙ c .before .before .before .enum-told .given .1)
     (sym (ap (λ (v : Verdict). provided v (M.good (stopsOf (read .result .state)))) (c .enum-told2 .given .1)) ∙ (read .ensures) .means)
 
@@ -40,8 +38,8 @@ enum-known-v c = search needs
 returns : tie.Need-returns
 returns c =
     let a = c .before .before .before .before .before .before .before .before .before .args in
-    refused-is (a .profile .now) (a .ingress) (a .list .now) (a .domains .now) (a .pinned .now) (a .pins .now) _
-    (outcome-refused (a .profile .now) (a .ingress) (a .list .now) _ _ (checks-refused (a .profile .now) (a .ingress) (a .list .now) _ (sym (c .before .before .before .read-verdict .ensures) ∙ c .before .v .given .1)))
+    refused-is (a .profile .now) (a .ingress .0) (a .list .now) (a .domains .now) (a .pinned .now) (a .pins .now) _
+    (outcome-refused (a .profile .now) (a .ingress .0) (a .list .now) _ _ (checks-refused (a .profile .now) (a .ingress .0) (a .list .now) _ (sym (c .before .before .before .read-verdict .ensures) ∙ c .before .v .given .1)))
 
 enum-told : tie.Need-enum-told
 enum-told c = search needs
@@ -59,9 +57,9 @@ returns-2 : tie.Need-returns-2
 returns-2 c =
     let a = c .before .before .before .before .before .before .before .before .before .before .before .before .args in
     let read = c .before .before .before .read-list in
-    refused-is (a .profile .now) (a .ingress) (a .list .now) (a .domains .now) (a .pinned .now) (a .pins .now) _
-    (outcome-refused (a .profile .now) (a .ingress) (a .list .now) _ _
-    (checks-passed (a .profile .now) (a .ingress) (a .list .now) _ (sym (c .before .before .before .before .before .before .read-verdict .ensures) ∙ c .before .before .before .before .enum-told .given .1)
+    refused-is (a .profile .now) (a .ingress .0) (a .list .now) (a .domains .now) (a .pinned .now) (a .pins .now) _
+    (outcome-refused (a .profile .now) (a .ingress .0) (a .list .now) _ _
+    (checks-passed (a .profile .now) (a .ingress .0) (a .list .now) _ (sym (c .before .before .before .before .before .before .read-verdict .ensures) ∙ c .before .before .before .before .enum-told .given .1)
     (sym (ap (λ (v : Verdict). provided v (M.good (stopsOf (read .result .state)))) (c .before .verdict .given .1)) ∙ (read .ensures) .means)))
 
 enum-told-2 : tie.Need-enum-told-2
@@ -75,20 +73,16 @@ returns-3 c =
     let a = c .before .before .before .before .before .before .before .before .before .before .before .before .before .before .args in
     let st = c .before .before .before .before .before .read-list .result .state in
     let few = c .if1 .taken in
-    refused-is (a .profile .now) (a .ingress) (a .list .now) (a .domains .now) (a .pinned .now) (a .pins .now) _
-    (outcome-small (a .profile .now) (a .ingress) (a .list .now) _ (stopsOf st) (sequence (c .before .before .before)) (omega (arith, length-stops st, c .before .least .ensures)))
+    refused-is (a .profile .now) (a .ingress .0) (a .list .now) (a .domains .now) (a .pinned .now) (a .pins .now) _
+    (outcome-small (a .profile .now) (a .ingress .0) (a .list .now) _ (stopsOf st) (sequence (c .before .before .before)) (omega (arith, length-stops st, c .before .least .ensures)))
 
-copy-domains-requires : tie.Need-copy-domains-requires
-copy-domains-requires c κs = search needs
+copy-sequence-requires : tie.Need-copy-sequence-requires
+copy-sequence-requires c κs =
+    let fits = c .before .before .before in
+    ((fits .before .before .before .before .before .read-list .ensures) .sound, omega (arith, fits .if1 .left, fits .before .least .ensures))
 
-copy-marks-requires : tie.Need-copy-marks-requires
-copy-marks-requires c κs = search needs
-
-copy-nodes-requires : tie.Need-copy-nodes-requires
-copy-nodes-requires c κs = search needs
-
-cast-t30 : tie.Need-cast-t30
-cast-t30 c = search needs
+cast-t27 : tie.Need-cast-t27
+cast-t27 c = search needs
 
 same-length : tie.Need-same-length
 same-length c = search needs
@@ -101,16 +95,14 @@ same-length-3 c = search needs
 
 returns-4 : tie.Need-returns-4
 returns-4 c =
-    let a = c .before .before .before .before .before .before .before .before .before .before .before .before .before .before .before .before .before .before .before .before .before .before .before .before .before .before .before .before .before .args in
-    let st = c .before .before .before .before .before .before .before .before .before .before .before .before .before .before .before .before .before .before .before .before .read-list .result .state in
-    let sound = (c .before .before .before .before .before .before .before .before .before .before .before .before .before .before .before .before .before .before .before .before .read-list .ensures) .sound in
-    let room = c .before .before .before .before .before .before .before .before .before .before .before .before .before .before .before .if1 .left in
-    read-is (a .profile .now) (a .ingress) (a .list .now) (a .domains .now) (a .pinned .now) (a .pins .now) (stopsOf st) _ _ _ _
-    (outcome-read (a .profile .now) (a .ingress) (a .list .now) _ (stopsOf st) (sequence (c .before .before .before .before .before .before .before .before .before .before .before .before .before .before .before .before .before .before)) (omega (arith, length-stops st, c .before .before .before .before .before .before .before .before .before .before .before .before .before .before .before .before .least .ensures)))
+    let a = c .before .before .before .before .before .before .before .before .before .before .before .before .before .before .before .before .before .before .before .before .before .before .before .before .args in
+    let fits = c .before .before .before .before .before .before .before .before .before .before in
+    let st = fits .before .before .before .before .before .read-list .result .state in
+    let room = fits .if1 .left in
+    read-is (a .profile .now) (a .ingress .0) (a .list .now) (a .domains .now) (a .pinned .now) (a .pins .now) (stopsOf st) _ _ _ _
+    (outcome-read (a .profile .now) (a .ingress .0) (a .list .now) _ (stopsOf st) (sequence (fits .before .before .before)) (omega (arith, length-stops st, fits .before .least .ensures)))
     (sym (length-stops st))
-    (c .before .before .before .before .before .before .before .before .before .before .before .before .copy-domains .ensures ∙ ap (λ (l : List ℕ). over l (a .domains .now)) (domains-part st sound))
-    (c .before .before .before .before .before .before .before .copy-marks .ensures ∙ ap (λ (l : List ℕ). over l (a .pinned .now)) (marks-part st sound))
-    (c .before .before .copy-nodes .ensures ∙ ap (λ (l : List ℕ). over l (a .pins .now)) (nodes-part st sound))
+    (c .before .before .before .before .before .before .copy-sequence .ensures)
 
 pub read-include-spec : {M : Type 1} → statement M
 read-include-spec =
@@ -126,10 +118,8 @@ read-include-spec =
     enum-told-2
     least-requires
     returns-3
-    copy-domains-requires
-    copy-marks-requires
-    copy-nodes-requires
-    cast-t30
+    copy-sequence-requires
+    cast-t27
     same-length
     same-length-2
     same-length-3

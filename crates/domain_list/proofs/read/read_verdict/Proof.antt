@@ -22,7 +22,7 @@ enum-known-v c = search needs
 returns : tie.Need-returns
 returns c =
     let a = c .before .before .before .before .before .before .args in
-    sym (profile-refused (a .profile .now) (a .ingress) (a .list .now) _ (sym (c .before .before .before .verdict-on .ensures) ∙ c .before .v .given .1))
+    sym (profile-refused (a .profile .now) (a .ingress .0) (a .list .now) _ (sym (c .before .before .before .verdict-on .ensures) ∙ c .before .v .given .1))
 
 enum-told : tie.Need-enum-told
 enum-told c = search needs
@@ -32,21 +32,21 @@ domain-count-requires c κs = whole-header (c .before .before .before .before .b
 
 returns-2 : tie.Need-returns-2
 returns-2 c =
-    let a = c .before .before .before .before .before .before .before .args in
-    sym (ingress-refused (a .profile .now) (a .ingress) (a .list .now) (taken (c .before .before)) (le-leb _ _ (subst (λ (n : ℕ). n ≤ a .ingress) (c .before .domain-count .ensures) (c .if1 .taken))))
+    let a = c .before .before .before .before .before .before .before .before .args in
+    sym (ingress-refused (a .profile .now) (a .ingress .0) (a .list .now) (taken (c .before .before .before)) (le-leb _ _ (subst (λ (n : ℕ). n ≤ a .ingress .0) (c .before .before .domain-count .ensures) (c .if1 .taken))))
 
 returns-3 : tie.Need-returns-3
 returns-3 c =
-    let a = c .before .before .before .before .before .before .before .before .args in
-    sym (size-refused (a .profile .now) (a .ingress) (a .list .now) (taken (c .before .before .before)) (lt-leb _ _ (subst (λ (n : ℕ). a .ingress < n) (c .before .before .domain-count .ensures) (c .before .if1 .left))) (lt-ltb _ _ (c .if2 .taken)))
+    let a = c .before .before .before .before .before .before .before .before .before .args in
+    sym (size-refused (a .profile .now) (a .ingress .0) (a .list .now) (taken (c .before .before .before .before)) (lt-leb _ _ (subst (λ (n : ℕ). a .ingress .0 < n) (c .before .before .before .domain-count .ensures) (c .before .if1 .left))) (lt-ltb _ _ (c .if2 .taken)))
 
 form-requires : tie.Need-form-requires
 form-requires c κs = search needs
 
 returns-4 : tie.Need-returns-4
 returns-4 c =
-    let a = c .before .before .before .before .before .before .before .before .before .args in
-    c .form .ensures ∙ sym (form-left (a .profile .now) (a .ingress) (a .list .now) (taken (c .before .before .before .before)) (lt-leb _ _ (subst (λ (n : ℕ). a .ingress < n) (c .before .before .before .domain-count .ensures) (c .before .before .if1 .left))) (le-ltb _ _ (c .before .if2 .left)))
+    let a = c .before .before .before .before .before .before .before .before .before .before .args in
+    c .form .ensures ∙ sym (form-left (a .profile .now) (a .ingress .0) (a .list .now) (taken (c .before .before .before .before .before)) (lt-leb _ _ (subst (λ (n : ℕ). a .ingress .0 < n) (c .before .before .before .before .domain-count .ensures) (c .before .before .if1 .left))) (le-ltb _ _ (c .before .if2 .left)))
 
 pub read-verdict-spec : {M : Type 1} → statement M
 read-verdict-spec =
