@@ -148,7 +148,7 @@ fn head_wrong(kind: ListKind, first: u8, n: u8, area: u8) -> u32
 }
 
 // The form of the subobject at an offset.
-pub fn form_at(kind: ListKind, list: &[u8], at: usize) -> Verdict
+fn form_at(kind: ListKind, list: &[u8], at: usize) -> Verdict
     requires { ⌜ (at < length (now list)) × (length (now list) ≤ 1024) ⌝ }
     ensures { λ r. ⌜ r ≡ subobjectVerdict kind (now (list .entry)) at ⌝ }
 {

@@ -31,7 +31,7 @@ pub struct Item {
     pub next: usize,
 }
 
-pub fn wide(x: u8) -> usize
+pub(crate) fn wide(x: u8) -> usize
     ensures { λ r. ⌜ (r ≡ x) × (r < 256) ⌝ }
 {
     x as usize
@@ -74,7 +74,7 @@ fn named_at(list: &[u8], at: usize) -> Named
 }
 
 // Where the subobject after the one at an offset starts.
-pub fn next_at(list: &[u8], at: usize) -> usize
+pub(crate) fn next_at(list: &[u8], at: usize) -> usize
     requires { ⌜ Readable (now list) at ⌝ }
     ensures { λ r. ⌜ r ≡ at + lengthAt (now (list .entry)) at ⌝ }
 {
@@ -82,7 +82,7 @@ pub fn next_at(list: &[u8], at: usize) -> usize
 }
 
 // The subobject at an offset where the form is right.
-pub fn item_at(list: &[u8], at: usize) -> Item
+pub(crate) fn item_at(list: &[u8], at: usize) -> Item
     requires { ⌜ Readable (now list) at ⌝ }
     ensures { λ r. ⌜ ItemAt (now (list .entry)) at r ⌝ }
 {
