@@ -11,8 +11,8 @@ use crate::unwritable::unwritable;
 use model::Refusal;
 use model::Verdict;
 use model::WriteAnswer;
-use profile::domain::domain_at;
 use profile::verdict_on;
+use records::domain::domain_at;
 
 // Domain i is not the first, and its AS is the one before.
 fn same_system(i: usize, before: u32, asn: u32) -> bool

@@ -11,7 +11,7 @@ use Rattle.model.specs.declared.Hop.{Hop}
 use Rattle.model.specs.declared.Verdict.the-variants.{Pass, Refuse}
 use Rattle.model.specs.Lists.{among}
 use Rattle.model.specs.Profile.{Layout, domainCount, hopCount, hopAt, hopMisordered, crowded, crowdedVerdict}
-use Rattle.profile.specs.Layout.{HopsWithin}
+use Rattle.records.specs.Layout.{HopsWithin}
 use Rattle.profile.specs.Noting.{Added}
 use Rattle.profile.proofs.Crowding.{Noted, Passing, crowded-number, noted-more, within-domain, carry, passing-next}
 

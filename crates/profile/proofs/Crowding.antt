@@ -14,11 +14,11 @@ use Rattle.model.specs.declared.Hop.{Hop}
 use Rattle.model.specs.Lists.{keep, keepIf, among, different}
 use Rattle.model.specs.Profile.{Layout, hopCount, hopAt, hops, hopMisordered, between, entryNodes, crowded}
 use Rattle.laws.proofs.Different.{oneMore, different-count}
-use Rattle.profile.specs.Layout.{HopsWithin}
-use Rattle.profile.proofs.Records.{take-hops}
+use Rattle.records.specs.Layout.{HopsWithin}
+use Rattle.laws.proofs.Records.{take-hops}
 use Rattle.profile.proofs.Padding.{snoc-among}
 use Rattle.profile.proofs.Pairs.{first-of-pair}
-use Rattle.profile.proofs.Booleans.{both-true}
+use Rattle.laws.proofs.Tests.{and-both}
 
 abbrev heads : List Hop → List ℕ
 heads hs = map (λ (h : Hop). h .head .0) hs
@@ -137,7 +137,7 @@ module _
           (seen-none L s (hopAt L s (suc j) .from .0) (hopAt L s (suc j) .to .0) (suc j) (omega arith)
           (first-of-pair L s (hopCount s) bytes within ordered j (omega arith)
           (λ (b : between (hopAt L s (suc j) .from .0) (hopAt L s (suc j) .to .0) (hopAt L s j) ≡ true).
-          let parts = both-true (eqb (hopAt L s j .from .0) (hopAt L s (suc j) .from .0)) (eqb (hopAt L s j .to .0) (hopAt L s (suc j) .to .0)) b in
+          let parts = and-both (eqb (hopAt L s j .from .0) (hopAt L s (suc j) .from .0)) (eqb (hopAt L s j .to .0) (hopAt L s (suc j) .to .0)) b in
           let before = p .last j q in
           let from : hopAt L s i .from .0 ≡ d =
           ap (λ (k : ℕ). hopAt L s k .from .0) q ∙ sym (eqb-true (hopAt L s j .from .0) (hopAt L s (suc j) .from .0) (parts .0)) ∙ sym (before .0) in

@@ -1,6 +1,6 @@
 -- A list whose places past the first `count` repeat some of these: all of it may be searched, and a number more may be stored at `count`.
 use mathlib.Core.Path.{_≡_, refl, sym, ap, subst, _∙_}
-use mathlib.Core.Bool.{Bool, true, false, cond, _||_}
+use mathlib.Core.Bool.{Bool, true, false, cond, _||_, or-false, or-true}
 use mathlib.Core.List.{List, [], _∷_, _++_}
 use Prim.Native.Nat.{ℕ, suc, _+_, _<_, _≤_}
 use native.Mathlib.Numerals.{add-one}
@@ -12,7 +12,6 @@ use lib.Dec.{eqb}
 use Rattle.model.specs.Lists.{any, among}
 use Rattle.laws.proofs.Different.{among-append}
 use Rattle.profile.specs.Noting.{Padded, Added}
-use Rattle.profile.proofs.Booleans.{or-false, or-true}
 
 pub snoc-among : (y x : ℕ) (xs : List ℕ) → among y (xs ++ (x ∷ [])) ≡ among y xs || eqb y x
 unfolding among any

@@ -14,9 +14,9 @@ use Rattle.model.specs.Bytes.{number, part}
 use Rattle.model.specs.Profile.{Layout, hopStart, hopAt, hopMisordered, between}
 use Rattle.laws.proofs.BigEndian.{number-add, number-bound}
 use Rattle.laws.proofs.Words.{below-word}
-use Rattle.profile.specs.Layout.{HopsWithin}
-use Rattle.profile.proofs.Fields.{hop-within}
-use Rattle.profile.proofs.Booleans.{both-true}
+use Rattle.records.specs.Layout.{HopsWithin}
+use Rattle.records.proofs.Fields.{hop-within}
+use Rattle.laws.proofs.Tests.{and-both}
 
 not-above : (x y : ℕ) (rest : Bool) → ltb x y || (eqb x y && rest) ≡ true → x ≤ y
 not-above x y rest e = go (ltb x y) (eqb x y) refl refl e
@@ -67,7 +67,7 @@ module _ (L : Layout) (s : List ℕ) (n : ℕ) (bytes : (i : ℕ) → getD s i 0
       go : (t : Bool) → between (hopAt L s (suc i) .from .0) (hopAt L s (suc i) .to .0) (hopAt L s j) ≡ t → t ≡ false
       go false e = refl
       go true e =
-          let parts = both-true (eqb (number 2 s (hopStart L s j)) (number 2 s (hopStart L s (suc i)))) _ e in
+          let parts = and-both (eqb (number 2 s (hopStart L s j)) (number 2 s (hopStart L s (suc i)))) _ e in
           let from : number 2 s (hopStart L s j) ≡ number 2 s (hopStart L s (suc i)) = eqb-true _ _ (parts .0) in
           let to : number 2 s (hopStart L s j + 2) ≡ number 2 s (hopStart L s (suc i) + 2) = eqb-true _ _ (parts .1) in
           let low : number 4 s (hopStart L s j) ≤ number 4 s (hopStart L s i) = ascend j i (omega arith) (omega arith) in

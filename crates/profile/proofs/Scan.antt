@@ -1,6 +1,6 @@
 -- The scan for a number among the first of a list: what is found once one element more is passed.
 use mathlib.Core.Path.{_≡_, refl}
-use mathlib.Core.Bool.{_||_}
+use mathlib.Core.Bool.{_||_, or-false}
 use mathlib.Core.List.{List, [], _∷_}
 use Prim.Native.Nat.{ℕ, _+_, _<_}
 use native.Mathlib.Numerals.{add-one}
@@ -9,7 +9,6 @@ use lib.Seq.{take-suc}
 use lib.Dec.{eqb}
 use Rattle.model.specs.Lists.{any, among}
 use Rattle.laws.proofs.Different.{eqb-sym, among-append}
-use Rattle.profile.proofs.Booleans.{or-false}
 
 pub found-next : (xs : List ℕ) (x j : ℕ) → j < length xs → among x (take j xs) || eqb (getD xs j 0) x ≡ among x (take (j + 1) xs)
 unfolding among any

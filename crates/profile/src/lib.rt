@@ -1,26 +1,19 @@
-// Profile files: the records they hold, and the check of a whole profile, numbers 10 to 19.
+// The check of a whole profile, numbers 10 to 19.
 use crate::crowd::crowded_verdict;
-use crate::domain::domains_verdict;
-use crate::header::header_verdict;
-use crate::hop::hops_verdict;
-use crate::layout::Layout;
-use crate::layout::first_version;
 use model::ProfileAnswer;
 use model::Verdict;
+use records::domain::domains_verdict;
+use records::header::header_verdict;
+use records::hop::hops_verdict;
+use records::layout::Layout;
+use records::layout::first_version;
 ghost use mathlib.Core.Path.{_≡_};
 ghost use Rattle.model.specs.Answers.{numbersOfProfile};
 ghost use Rattle.model.specs.Calls.{checkProfile};
 ghost use Rattle.model.specs.Profile.{profileVerdict, version1};
-ghost use Rattle.profile.specs.Layout.{layoutOf, Sound};
+ghost use Rattle.records.specs.Layout.{layoutOf, Sound};
 
 pub mod crowd;
-pub mod domain;
-pub mod header;
-pub mod hop;
-pub mod layout;
-pub mod order;
-pub mod reserved;
-pub mod verdict;
 
 // The verdict on a profile of any layout. A function that asks for an accepted profile asks that this verdict is `Pass`.
 pub fn profile_verdict(s: &[u8], layout: Layout) -> Verdict

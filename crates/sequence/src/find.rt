@@ -1,7 +1,7 @@
 // The domains of a profile that a subobject can mean.
 use model::DomainIndex;
-use profile::domain::domain_at;
-use profile::header::domain_count;
+use records::domain::domain_at;
+use records::header::domain_count;
 use subobject::area::has_area;
 use wire::u32_at;
 ghost use mathlib.Core.Path.{_≡_};

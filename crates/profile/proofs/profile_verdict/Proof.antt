@@ -2,7 +2,7 @@
 -- Assumes nothing.
 use borrow.Author.Needs.{needs}
 use Rattle.profile.proofs.Passed.{passed-header}
-use Rattle.profile.specs.Layout.{layoutOf}
+use Rattle.records.specs.Layout.{layoutOf}
 use Rattle.model.specs.Profile.{profileVerdict}
 use denote.Ref.{now}
 use mathlib.Core.Path.{sym, _∙_}

@@ -5,17 +5,15 @@ use borrow.Author.Needs.{needs}
 use Rattle.profile.proofs.CrowdStep.{Turn, carried-few, same-passes, same-goes-on, seventeenth, few-pass, few-go-on}
 use Rattle.profile.proofs.Crowding.{Passing, passing-start}
 use Rattle.profile.proofs.Passed.{all-ordered, all-numeric}
-use Rattle.profile.proofs.Fields.{hop-within}
-use Rattle.profile.specs.Layout.{layoutOf}
+use Rattle.records.proofs.Fields.{hop-within}
+use Rattle.records.specs.Layout.{layoutOf}
 use Rattle.profile.specs.Noting.{Padded}
 use Rattle.profile.proofs.Padding.{padded-none, padded-carried}
-use Rattle.laws.proofs.Turns.{turn-passed, turn-refused, inTurn-none}
+use Rattle.records.proofs.Turned.{Turned, start, passed, refused, ended}
 use Rattle.model.specs.Profile.{hopCount, crowdedVerdict}
-use Rattle.model.specs.Verdict.{inTurn}
 use lib.Dec.{eqb}
 use lib.ListN.{length}
 use denote.Ref.{now}
-use native.Mathlib.Nat.{sub-zero}
 use mathlib.Core.Bool.{_&&_}
 use mathlib.Core.Logic.{⊎-elim}
 use mathlib.Core.Path.{_≡_, refl, sym, ap, _∙_}
@@ -26,12 +24,11 @@ use Rattle.profile.proofs.crowd.crowded_verdict.Tie as tie
 
 abbrev Inv-loop : tie.InvT-loop
 Inv-loop s layout domains hops noted₀ count₀ d₀ e₀ i₀ noted count d e i =
-    (i ≤ hops)
-    × (count ≤ 16)
+    (count ≤ 16)
     × (length noted ≡ 16)
-    × (inTurn (crowdedVerdict (layoutOf layout) s) 0 hops ≡ inTurn (crowdedVerdict (layoutOf layout) s) i (hops - i))
-    × Passing (layoutOf layout) s d e i noted count
     × Padded noted count
+    × Passing (layoutOf layout) s (d .0) (e .0) i noted count
+    × Turned (crowdedVerdict (layoutOf layout) s) hops i
 
 abbrev μ-loop : tie.MeasureT-loop
 μ-loop s layout domains hops noted₀ count₀ d₀ e₀ i₀ noted count d e i = hops - i
@@ -52,11 +49,10 @@ loop-holds : tie.Need-loop-holds Inv-loop μ-loop
 loop-holds c =
     let a = c .before .before .before .args in (
       omega arith,
-      omega arith,
       refl,
-      ap (inTurn (crowdedVerdict (layoutOf (a .layout)) (now (a .s))) 0) (sym (sub-zero (c .hop-count .result))),
-      passing-start (layoutOf (a .layout)) (now (a .s)) 0 0 _,
       padded-none _ 0 refl,
+      passing-start (layoutOf (a .layout)) (now (a .s)) 0 0 _,
+      start _ (c .hop-count .result),
     )
 
 hop-at-requires : tie.Need-hop-at-requires Inv-loop μ-loop
@@ -73,13 +69,12 @@ carried-requires c κs = search needs
 
 note-requires : tie.Need-note-requires Inv-loop μ-loop
 note-requires c κs =
-    let l = c .before .before .before .before .before .loop in
-    let x = c .before .before .before .hop-at .result in (
-      rw (c .before .before .carried .ensures) (carried-few (eqb (x .from .0) (l .d) && eqb (x .to .0) (l .e)) (l .count) 16 (l .inv .1)),
-      l .inv .2,
-      padded-carried
-          (eqb (x .from .0) (l .d) && eqb (x .to .0) (l .e)) (l .noted) (l .count) (c .before .before .carried .result)
-          (c .before .before .carried .ensures) (l .inv .5),
+    let l = c .before .before .before .before .before .before .before .before .before .before .loop in
+    let x = c .before .before .before .before .before .before .before .before .hop-at .result in
+    let same = eqb (x .from .0) (l .d .0) && eqb (x .to .0) (l .e .0) in (
+      rw (c .before .before .before .before .carried .ensures) (carried-few same (l .count) 16 (l .inv .0)),
+      l .inv .1,
+      padded-carried same (l .noted) (l .count) (c .before .before .before .before .carried .result) (c .before .before .before .before .carried .ensures) (l .inv .2),
     )
 
 add-refuse : tie.Need-add-refuse Inv-loop μ-loop
@@ -93,34 +88,22 @@ refuse-requires c κs = search needs
 
 returns : tie.Need-returns Inv-loop μ-loop
 returns c =
-    let a = c .before .before .before .before .before .before .before .before .before .before .before .before .args in
-    let l = c .before .before .before .before .before .before .before .before .loop in
-    let L = layoutOf (a .layout) in
-    let s = now (a .s) in
-    let x = c .before .before .before .before .before .before .hop-at .result in
-    let kept = c .before .before .before .before .before .carried .result in
-    let turn : Turn L s (l .d) (l .e) (l .i) (l .noted) (l .count) x kept =
+    let a = c .before .before .before .before .before .before .before .before .before .before .before .before .before .before .before .before .before .args in
+    let l = c .before .before .before .before .before .before .before .before .before .before .before .before .before .loop in
+    let turn : Turn (layoutOf (a .layout)) (now (a .s)) (l .d .0) (l .e .0) (l .i) (l .noted) (l .count) (c .before .before .before .before .before .before .before .before .before .before .before .hop-at .result) (c .before .before .before .before .before .before .before .carried .result) =
     record {
-      bytes = λ (k : ℕ). c .before .before .before .before .before .before .before .before .before .before .before .shared-slice-known .given k .fits;
-      within = c .before .before .before .before .before .before .before .before .before .before .before .before .pre .0;
-      ordered = all-ordered L s (hopCount s) (c .before .before .before .before .before .before .before .before .before .before .before .before .pre .1);
+      bytes = λ (k : ℕ). c .before .before .before .before .before .before .before .before .before .before .before .before .before .before .before .before .shared-slice-known .given k .fits;
+      within = c .before .before .before .before .before .before .before .before .before .before .before .before .before .before .before .before .before .pre .0;
+      ordered = all-ordered (layoutOf (a .layout)) (now (a .s)) (hopCount (now (a .s))) (c .before .before .before .before .before .before .before .before .before .before .before .before .before .before .before .before .before .pre .1);
       here = omega arith;
-      passing = l .inv .4;
-      is = c .before .before .before .before .before .before .hop-at .ensures;
-      keeps = c .before .before .before .before .before .carried .ensures;
+      passing = l .inv .3;
+      is = c .before .before .before .before .before .before .before .before .before .before .before .hop-at .ensures;
+      keeps = c .before .before .before .before .before .before .before .carried .ensures;
     } in
     c .refuse .ensures
-    ∙ sym
-    (rw
-    (← (c .before .before .before .before .before .before .before .before .before .hop-count .ensures))
-    (l .inv .3
-    ∙ turn-refused (crowdedVerdict L s) (l .i)
-    (c .before .before .before .before .before .before .before .before .before .hop-count .result) _
-    (c .before .before .before .before .before .before .before .loop-test .taken)
-    (seventeenth turn
-    (c .before .before .before .before .if1 .taken) (c .before .before .note .result) (c .before .before .note .ensures .0)
-    (c .before .if2 .taken) (c .before .before .before .before .before .before .before .before .before .before .domain-count .result + l .i)
-    (ap (λ (n : ℕ). n + l .i) (c .before .before .before .before .before .before .before .before .before .before .domain-count .ensures)))))
+    ∙ refused (l .inv .4) (c .before .before .before .before .before .before .before .before .before .before .before .before .before .before .hop-count .ensures) (c .before .before .before .before .before .before .before .before .before .before .before .before .loop-test .taken)
+    (seventeenth turn (c .before .before .before .before .if1 .taken) (c .before .before .note .result) (c .before .before .note .ensures .0) (c .before .if2 .taken)
+    (c .before .before .before .before .before .before .before .before .before .before .before .before .before .before .before .domain-count .result + l .i) (ap (λ (n : ℕ). n + l .i) (c .before .before .before .before .before .before .before .before .before .before .before .before .before .before .before .domain-count .ensures)))
 
 add-i : tie.Need-add-i Inv-loop μ-loop
 add-i c = omega arith
@@ -130,57 +113,41 @@ loop-less c = omega arith
 
 loop-again : tie.Need-loop-again Inv-loop μ-loop
 loop-again c =
-    let a = c .before .before .before .before .before .before .before .before .args in
-    let l = c .before .before .before .before .loop in
-    let L = layoutOf (a .layout) in
-    let s = now (a .s) in
-    let x = c .before .before .hop-at .result in
-    let kept = c .before .carried .result in
-    let turn : Turn L s (l .d) (l .e) (l .i) (l .noted) (l .count) x kept =
+    let a = c .before .before .before .before .before .before .before .before .before .before .before .before .before .args in
+    let l = c .before .before .before .before .before .before .before .before .before .loop in
+    let x = c .before .before .before .before .before .before .before .hop-at .result in
+    let same = eqb (x .from .0) (l .d .0) && eqb (x .to .0) (l .e .0) in
+    let turn : Turn (layoutOf (a .layout)) (now (a .s)) (l .d .0) (l .e .0) (l .i) (l .noted) (l .count) (c .before .before .before .before .before .before .before .hop-at .result) (c .before .before .before .carried .result) =
     record {
-      bytes = λ (k : ℕ). c .before .before .before .before .before .before .before .shared-slice-known .given k .fits;
-      within = c .before .before .before .before .before .before .before .before .pre .0;
-      ordered = all-ordered L s (hopCount s) (c .before .before .before .before .before .before .before .before .pre .1);
+      bytes = λ (k : ℕ). c .before .before .before .before .before .before .before .before .before .before .before .before .shared-slice-known .given k .fits;
+      within = c .before .before .before .before .before .before .before .before .before .before .before .before .before .pre .0;
+      ordered = all-ordered (layoutOf (a .layout)) (now (a .s)) (hopCount (now (a .s))) (c .before .before .before .before .before .before .before .before .before .before .before .before .before .pre .1);
       here = omega arith;
-      passing = l .inv .4;
-      is = c .before .before .hop-at .ensures;
-      keeps = c .before .carried .ensures;
+      passing = l .inv .3;
+      is = c .before .before .before .before .before .before .before .hop-at .ensures;
+      keeps = c .before .before .before .carried .ensures;
     } in
     ⊎-elim
     (λ w.
     rw (w .4, w .5) (
-      omega arith,
       w .3 .left,
       w .2 .ensures .1 .long,
-      l .inv .3
-          ∙ turn-passed (crowdedVerdict L s) (l .i)
-          (c .before .before .before .before .before .hop-count .result) (c .before .before .before .loop-test .taken)
-          (few-pass turn (w .0 .taken) (w .2 .result) (w .2 .ensures .0) (w .3 .left)),
-      few-go-on turn (w .0 .taken) (w .2 .result) (w .2 .ensures .0) (w .3 .left) _ (w .2 .ensures .1),
       w .2 .ensures .1 .padded (w .3 .left),
+      few-go-on turn (w .0 .taken) (w .2 .result) (w .2 .ensures .0) (w .3 .left) _ (w .2 .ensures .1),
+      passed (l .inv .4) (c .before .before .before .before .before .before .before .before .loop-test .taken) (few-pass turn (w .0 .taken) (w .2 .result) (w .2 .ensures .0) (w .3 .left)),
     ))
     (λ w.
     rw (w .1, w .2) (
-      omega arith,
-      rw (c .before .carried .ensures) (carried-few (eqb (x .from .0) (l .d) && eqb (x .to .0) (l .e)) (l .count) 16 (l .inv .1)),
-      l .inv .2,
-      l .inv .3
-          ∙ turn-passed (crowdedVerdict L s) (l .i)
-          (c .before .before .before .before .before .hop-count .result)
-          (c .before .before .before .loop-test .taken) (same-passes turn (w .0 .left)),
+      rw (c .before .before .before .carried .ensures) (carried-few same (l .count) 16 (l .inv .0)),
+      l .inv .1,
+      padded-carried same (l .noted) (l .count) _ (c .before .before .before .carried .ensures) (l .inv .2),
       same-goes-on turn (w .0 .left),
-      padded-carried (eqb (x .from .0) (l .d) && eqb (x .to .0) (l .e)) (l .noted) (l .count) kept (c .before .carried .ensures) (l .inv .5),
+      passed (l .inv .4) (c .before .before .before .before .before .before .before .before .loop-test .taken) (same-passes turn (w .0 .left)),
     ))
     (c .if1 .came)
 
 returns-2 : tie.Need-returns-2 Inv-loop μ-loop
-returns-2 c =
-    let l = c .before .loop in
-    let a = c .before .before .before .before .before .args in
-    sym
-    (rw
-    (← (c .before .before .hop-count .ensures))
-    (l .inv .3 ∙ inTurn-none (crowdedVerdict (layoutOf (a .layout)) (now (a .s))) (l .i) (c .before .before .hop-count .result) (c .loop-test .left)))
+returns-2 c = ended (c .before .loop .inv .4) (c .before .before .hop-count .ensures) (c .loop-test .left)
 
 pub crowded-verdict-spec : {M : Type 1} → statement M
 crowded-verdict-spec =

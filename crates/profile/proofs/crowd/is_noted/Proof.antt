@@ -12,7 +12,7 @@ use Rattle.profile.proofs.crowd.is_noted.Statement.{statement}
 use Rattle.profile.proofs.crowd.is_noted.Tie as tie
 
 abbrev Inv-loop : tie.InvT-loop
-Inv-loop noted node found₀ j₀ found j = (j ≤ 16) × (found ≡ among node (take j noted))
+Inv-loop noted node found₀ j₀ found j = (j ≤ 16) × (found ≡ among (node .0) (take j noted))
 
 abbrev μ-loop : tie.MeasureT-loop
 μ-loop noted node found₀ j₀ found j = 16 - j
@@ -35,15 +35,15 @@ loop-less c = omega arith
 
 loop-again : tie.Need-loop-again Inv-loop μ-loop
 loop-again c =
-    let l = c .before .before .loop in
-    let a = c .before .before .before .args in
-    (omega arith, rw (l .inv .1) (found-next (now (a .noted)) (a .node) (l .j) (omega arith)))
+    let l = c .before .before .before .loop in
+    let a = c .before .before .before .before .args in
+    (omega arith, rw (l .inv .1) (found-next (now (a .noted)) (a .node .0) (l .j) (omega arith)))
 
 returns : tie.Need-returns Inv-loop μ-loop
 returns c =
     let l = c .before .loop in
     let a = c .before .before .args in
-    l .inv .1 ∙ ap (among (a .node)) (take-all (l .j) (now (a .noted)) (omega arith))
+    l .inv .1 ∙ ap (among (a .node .0)) (take-all (l .j) (now (a .noted)) (omega arith))
 
 pub is-noted-spec : {M : Type 1} → statement M
 is-noted-spec =

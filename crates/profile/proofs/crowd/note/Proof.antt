@@ -8,7 +8,7 @@ use Rattle.profile.proofs.crowd.note.Statement.{statement}
 use Rattle.profile.proofs.crowd.note.Tie as tie
 
 returns : tie.Need-returns
-returns c = note-first (now (c .before .before .args .noted)) (c .before .before .args .count) (c .before .before .args .node) (c .before .if1 .taken)
+returns c = note-first (now (c .before .before .args .noted)) (c .before .before .args .count) (c .before .before .args .node .0) (c .before .if1 .taken)
 
 is-noted-requires : tie.Need-is-noted-requires
 is-noted-requires c κs = search needs
@@ -17,14 +17,14 @@ returns-2 : tie.Need-returns-2
 returns-2 c =
     note-held
     (now (c .before .before .before .before .args .noted)) (c .before .before .before .before .args .count)
-    (c .before .before .before .before .args .node) (c .before .before .before .if1 .left) (c .before .before .before .before .pre .0)
+    (c .before .before .before .before .args .node .0) (c .before .before .before .if1 .left) (c .before .before .before .before .pre .0)
     (c .before .before .before .before .pre .1) (c .before .before .before .before .pre .2) (sym (c .before .is-noted .ensures) ∙ c .if2 .taken)
 
 returns-3 : tie.Need-returns-3
 returns-3 c =
     note-full
     (now (c .before .before .before .before .before .args .noted)) (c .before .before .before .before .before .args .count)
-    (c .before .before .before .before .before .args .node) (c .before .before .before .before .if1 .left)
+    (c .before .before .before .before .before .args .node .0) (c .before .before .before .before .if1 .left)
     (c .before .before .before .before .before .pre .0) (c .before .before .before .before .before .pre .1)
     (c .before .before .before .before .before .pre .2) (sym (c .before .before .is-noted .ensures) ∙ c .before .if2 .left) (c .if3 .taken)
 
@@ -41,7 +41,7 @@ returns-4 : tie.Need-returns-4
 returns-4 c =
     note-new
     (now (c .before .before .before .before .before .args .noted)) (c .before .before .before .before .before .args .count)
-    (c .before .before .before .before .before .args .node) (c .before .before .before .before .if1 .left)
+    (c .before .before .before .before .before .args .node .0) (c .before .before .before .before .if1 .left)
     (c .before .before .before .before .before .pre .0) (c .before .before .before .before .before .pre .1)
     (c .before .before .before .before .before .pre .2) (sym (c .before .before .is-noted .ensures) ∙ c .before .if2 .left) (c .if3 .left)
 

@@ -1,0 +1,11 @@
+-- `records::domain::area_length_fits` meets its contract: the kinds in turn are the lines of the table of rules.
+-- Assumes nothing.
+use Rattle.records.proofs.Areas.{fits}
+use Rattle.records.proofs.domain.area_length_fits.Statement.{statement}
+use Rattle.records.proofs.domain.area_length_fits.Tie as tie
+
+returns : tie.Need-returns
+returns c = fits (c .args .kind) (c .args .length)
+
+pub area-length-fits-spec : {M : Type 1} → statement M
+area-length-fits-spec = tie.close (tie.spec returns)

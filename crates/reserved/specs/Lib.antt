@@ -1,0 +1,2 @@
+-- The name that the contracts of this crate cite.
+pub mod Table
