@@ -1,11 +1,12 @@
 -- The outcomes of `write_list` on an accepted profile: 35, 34, or the list. By which of the checks of `writeList` refuses.
-use Prim.Native.Nat.{ℕ, _≤_, _<_}
+use Prim.Native.Nat.{ℕ, _+_, _≤_, _<_}
+use native.Mathlib.Nat.{zero-add}
 use native.Mathlib.Omega.{arith}
 use mathlib.Core.Path.{_≡_, refl, sym, ap, _∙_}
 use mathlib.Core.Bool.{Bool, true, false}
-use mathlib.Core.List.{List}
+use mathlib.Core.List.{List, _++_}
 use lib.Dec.{leb, ltb}
-use lib.ListN.{length, take}
+use lib.ListN.{length, take, drop}
 use lib.Seq.{length-take-le}
 use borrow.Author.Tests.{leb-true, leb-false, lt-ltb, le-ltb}
 use Rattle.model.specs.declared.Refusal.{Refusal}
@@ -20,6 +21,7 @@ use Rattle.model.specs.WrittenList.{stops, written, unwritable}
 use Rattle.model.specs.Answers.{numbersOfWrite, refused2, done2}
 use Rattle.model.specs.Calls.{Outcome, nothing, answerWrite, writeList}
 use Rattle.laws.proofs.Lists.{over-nothing}
+use Rattle.list_writer.specs.Placed.{Put}
 use Rattle.list_writer.specs.Writing.{Writable, AllPut, allIf, allOrNone, refusedBy, WrittenBy}
 
 module _ (profile indexes marks nodes : List ℕ) where
@@ -58,8 +60,8 @@ module _ (profile indexes marks nodes : List ℕ) where
     all-fits true e c = let h = leb-true n (length entry) e in (omega arith, omega arith)
     all-fits false e c = (omega arith, omega arith)
 
-    pub fits : (count ≤ length buffer) × (count ≤ length entry)
-    fits = let h = all-fits (leb n (length entry)) refl k in (omega (arith, p .within), h .1)
+    pub fits : (0 + count ≤ length entry) × (count ≤ length buffer)
+    fits = let h = all-fits (leb n (length entry)) refl k in (omega arith, omega (arith, p .within))
 
     none-copied : (b : Bool) → leb n (length entry) ≡ b → count ≡ allIf b n → count < n → (length entry < n) × (count ≡ 0)
     none-copied true e c h = absurd (omega arith)
@@ -69,14 +71,18 @@ module _ (profile indexes marks nodes : List ℕ) where
     all-copied true e c h = (leb-true n (length entry) e, c)
     all-copied false e c h = (omega arith, omega arith)
 
-    module _ (exit : List ℕ) (x : exit ≡ over (take count buffer) entry) where
+    module _ (exit : List ℕ) (after : ℕ) (put : Put 0 (take count buffer) entry exit after) where
+      copied : exit ≡ over (take count buffer) entry
+      unfolding over
+      copied = put .holds ∙ ap (λ (m : ℕ). take count buffer ++ drop m entry) (zero-add (length (take count buffer)))
+
       pub too-small : (answer : WriteAnswer) → count < n → answer ≡ refusedBy 34 → WrittenBy profile indexes marks nodes entry exit answer
       too-small answer h a =
           let none = none-copied (leb n (length entry)) refl k h in
           by-outcome entry exit answer (nothing (refused2 (record { number = 34; place = 0 })))
           (outcome-by (length entry) Pass false true (w .accepted) (w .writable) (lt-ltb (length entry) (length bytes) (omega (arith, needed))))
           (ap numbersOfWrite a)
-          (x ∙ ap (λ (c : ℕ). over (take c buffer) entry) (none .1))
+          (copied ∙ ap (λ (c : ℕ). over (take c buffer) entry) (none .1))
 
       pub all-written : n ≤ count → WrittenBy profile indexes marks nodes entry exit (Written n)
       unfolding bytes
@@ -85,4 +91,4 @@ module _ (profile indexes marks nodes : List ℕ) where
           by-outcome entry exit (Written n) (record { numbers = done2 (length bytes); written = bytes })
           (outcome-by (length entry) Pass false false (w .accepted) (w .writable) (le-ltb (length entry) (length bytes) (omega (arith, needed))))
           (ap done2 (sym needed))
-          (x ∙ ap (λ (c : ℕ). over (take c buffer) entry) (all .1) ∙ ap (λ (s : List ℕ). over s entry) (p .bytes))
+          (copied ∙ ap (λ (c : ℕ). over (take c buffer) entry) (all .1) ∙ ap (λ (s : List ℕ). over s entry) (p .bytes))

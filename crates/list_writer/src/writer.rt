@@ -6,8 +6,11 @@ ghost use Rattle.model.specs.declared.Verdict.the-variants.{Pass};
 ghost use Rattle.model.specs.Lists.{over};
 ghost use Rattle.model.specs.Profile.{version1, profileVerdict, domains};
 ghost use Rattle.list_writer.specs.Writing.{systemAgain, Writable, AllPut, allOrNone, refusedBy, WrittenBy};
+use crate::put::put_bytes;
 use crate::put::put_stop;
 use crate::unwritable::unwritable;
+use model::DomainIndex;
+use model::NodeAddress;
 use model::Refusal;
 use model::Verdict;
 use model::WriteAnswer;
@@ -33,9 +36,10 @@ fn put_all(profile: &[u8], indexes: &[u16], marks: &[u8], nodes: &[u32], out: &m
     let mut before: u32 = 0;
     let mut i = 0;
     while i < indexes.len() {
-        let d = domain_at(profile, indexes[i] as usize);
+        let x = DomainIndex(indexes[i]);
+        let d = domain_at(profile, x.0 as usize);
         let again = same_system(i, before, d.asn);
-        at = put_stop(out, at, marks[i], nodes[i], again, d);
+        at = put_stop(out, at, marks[i], NodeAddress(nodes[i]), again, d);
         before = d.asn;
         i += 1;
     }
@@ -50,18 +54,6 @@ fn all_or_none(n: usize, room: usize) -> usize
         return 0;
     }
     n
-}
-
-// The first `n` bytes over the start of a buffer.
-fn copy_start(bytes: &[u8], n: usize, out: &mut [u8])
-    requires { ⌜ (n ≤ length (now bytes)) × (n ≤ length (now out)) ⌝ }
-    ensures { λ _. ⌜ now (out .exit) ≡ over (take n (now (bytes .entry))) (now (out .entry)) ⌝ }
-{
-    let mut i = 0;
-    while i < n {
-        out[i] = bytes[i];
-        i += 1;
-    }
 }
 
 fn refused(number: u32) -> WriteAnswer
@@ -87,7 +79,7 @@ fn write_accepted(
     let mut bytes = [0u8; 576];
     let n = put_all(profile, domains, pinned, pins, &mut bytes);
     let count = all_or_none(n, out.len());
-    copy_start(&bytes, count, out);
+    put_bytes(out, 0, &bytes, count);
     if count < n {
         return refused(34);
     }

@@ -44,11 +44,11 @@ put-all-requires c κs = (can-write (c .before), refl)
 all-or-none-requires : tie.Need-all-or-none-requires
 all-or-none-requires c κs = search needs
 
-slice-aggregate-copy-start : tie.Need-slice-aggregate-copy-start
-slice-aggregate-copy-start c = search needs
+slice-aggregate-put-bytes : tie.Need-slice-aggregate-put-bytes
+slice-aggregate-put-bytes c = search needs
 
-copy-start-requires : tie.Need-copy-start-requires
-copy-start-requires c κs =
+put-bytes-requires : tie.Need-put-bytes-requires
+put-bytes-requires c κs =
     let a = c .before .before .before .before .before .before .before .before .before .before .before .before .before .args in
     let put = c .before .before .before .before .put-all in
     let count = c .before .before .all-or-none in
@@ -73,13 +73,14 @@ returns-2 c =
     (put .ensures)
     (count .ensures)
     _
-    (c .before .before .before .before .copy-start .ensures)
+    _
+    (c .before .before .before .before .put-bytes .ensures)
     _
     (c .before .if2 .taken)
     (c .refused2 .ensures)
 
-cast-t19 : tie.Need-cast-t19
-cast-t19 c = search needs
+cast-t18 : tie.Need-cast-t18
+cast-t18 c = search needs
 
 same-length-2 : tie.Need-same-length-2
 same-length-2 c = search needs
@@ -94,7 +95,8 @@ returns-3 c =
     (put .ensures)
     (count .ensures)
     _
-    (c .before .before .before .copy-start .ensures)
+    _
+    (c .before .before .before .put-bytes .ensures)
     (c .if2 .left)
 
 pub write-accepted-spec : {M : Type 1} → statement M
@@ -107,11 +109,11 @@ write-accepted-spec =
     slice-aggregate-put-all
     put-all-requires
     all-or-none-requires
-    slice-aggregate-copy-start
-    copy-start-requires
+    slice-aggregate-put-bytes
+    put-bytes-requires
     refused-requires-2
     same-length
     returns-2
-    cast-t19
+    cast-t18
     same-length-2
     returns-3)
