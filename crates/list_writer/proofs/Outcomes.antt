@@ -22,7 +22,11 @@ use Rattle.model.specs.Answers.{numbersOfWrite, refused2, done2}
 use Rattle.model.specs.Calls.{Outcome, nothing, answerWrite, writeList}
 use Rattle.laws.proofs.Lists.{over-nothing}
 use Rattle.list_writer.specs.Placed.{Put}
-use Rattle.list_writer.specs.Writing.{Writable, AllPut, allIf, allOrNone, refusedBy, WrittenBy}
+use Rattle.list_writer.specs.Writing.{Writable, AllPut, allIf, allOrNone, WrittenBy}
+
+-- a refusal that has place 0
+abbrev refusedBy : ℕ → WriteAnswer
+refusedBy n = Refused (record { number = n; place = 0 })
 
 module _ (profile indexes marks nodes : List ℕ) where
   bytes : List ℕ
@@ -44,10 +48,9 @@ module _ (profile indexes marks nodes : List ℕ) where
   refused-profile entry r e = by-outcome entry entry (Refused r) (nothing (refused2 r)) (outcome-by (length entry) (Refuse r) _ _ e refl refl) refl (sym (over-nothing entry))
 
   -- a sequence that can't be written
-  pub refused-sequence : (entry : List ℕ) (answer : WriteAnswer) → profileVerdict version1 profile ≡ Pass → unwritable (domains profile) indexes marks nodes ≡ true
-      → answer ≡ refusedBy 35 → WrittenBy profile indexes marks nodes entry entry answer
-  refused-sequence entry answer e f a =
-      by-outcome entry entry answer (nothing (refused2 (record { number = 35; place = 0 }))) (outcome-by (length entry) Pass true _ e f refl) (ap numbersOfWrite a) (sym (over-nothing entry))
+  pub refused-sequence : (entry : List ℕ) → profileVerdict version1 profile ≡ Pass → unwritable (domains profile) indexes marks nodes ≡ true
+      → WrittenBy profile indexes marks nodes entry entry (refusedBy 35)
+  refused-sequence entry e f = by-outcome entry entry (refusedBy 35) (nothing (refused2 (record { number = 35; place = 0 }))) (outcome-by (length entry) Pass true _ e f refl) refl (sym (over-nothing entry))
 
   -- the whole list stands at the start of `buffer`, and `count` bytes of it were copied
   module _ (w : Writable profile indexes marks nodes) (entry buffer : List ℕ) (n count : ℕ) (l : length buffer ≡ 576) (p : AllPut profile indexes marks nodes buffer n)
@@ -76,12 +79,12 @@ module _ (profile indexes marks nodes : List ℕ) where
       unfolding over
       copied = put .holds ∙ ap (λ (m : ℕ). take count buffer ++ drop m entry) (zero-add (length (take count buffer)))
 
-      pub too-small : (answer : WriteAnswer) → count < n → answer ≡ refusedBy 34 → WrittenBy profile indexes marks nodes entry exit answer
-      too-small answer h a =
+      pub too-small : count < n → WrittenBy profile indexes marks nodes entry exit (refusedBy 34)
+      too-small h =
           let none = none-copied (leb n (length entry)) refl k h in
-          by-outcome entry exit answer (nothing (refused2 (record { number = 34; place = 0 })))
+          by-outcome entry exit (refusedBy 34) (nothing (refused2 (record { number = 34; place = 0 })))
           (outcome-by (length entry) Pass false true (w .accepted) (w .writable) (lt-ltb (length entry) (length bytes) (omega (arith, needed))))
-          (ap numbersOfWrite a)
+          refl
           (copied ∙ ap (λ (c : ℕ). over (take c buffer) entry) (none .1))
 
       pub all-written : n ≤ count → WrittenBy profile indexes marks nodes entry exit (Written n)

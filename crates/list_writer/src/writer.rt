@@ -5,7 +5,7 @@ ghost use lib.ListN.{length, take};
 ghost use Rattle.model.specs.declared.Verdict.the-variants.{Pass};
 ghost use Rattle.model.specs.Lists.{over};
 ghost use Rattle.model.specs.Profile.{version1, profileVerdict, domains};
-ghost use Rattle.list_writer.specs.Writing.{systemAgain, Writable, AllPut, allOrNone, refusedBy, WrittenBy};
+ghost use Rattle.list_writer.specs.Writing.{systemAgain, Writable, AllPut, allOrNone, WrittenBy};
 use crate::put::put_bytes;
 use crate::put::put_stop;
 use crate::unwritable::unwritable;
@@ -56,12 +56,6 @@ fn all_or_none(n: usize, room: usize) -> usize
     n
 }
 
-fn refused(number: u32) -> WriteAnswer
-    ensures { λ r. ⌜ r ≡ refusedBy number ⌝ }
-{
-    WriteAnswer::Refused(Refusal { number, place: 0 })
-}
-
 // The written list for an accepted profile: 35, 34, and then the bytes.
 fn write_accepted(
     profile: &[u8],
@@ -74,14 +68,20 @@ fn write_accepted(
     ensures { λ r. ⌜ WrittenBy (now (profile .entry)) (now (domains .entry)) (now (pinned .entry)) (now (pins .entry)) (now (out .entry)) (now (out .exit)) r ⌝ }
 {
     if unwritable(profile, domains, pinned, pins) {
-        return refused(35);
+        return WriteAnswer::Refused(Refusal {
+            number: 35,
+            place: 0,
+        });
     }
     let mut bytes = [0u8; 576];
     let n = put_all(profile, domains, pinned, pins, &mut bytes);
     let count = all_or_none(n, out.len());
     put_bytes(out, 0, &bytes, count);
     if count < n {
-        return refused(34);
+        return WriteAnswer::Refused(Refusal {
+            number: 34,
+            place: 0,
+        });
     }
     WriteAnswer::Written { length: n as u32 }
 }

@@ -1,7 +1,8 @@
 -- `writer::put_all` meets its contract. The loop's invariant: what is put so far and what is left from stop i on are the written list; a stop takes at most 36 bytes.
 -- The measure is what is left of the sequence.
-use Prim.Native.Nat.{_≤_, _+_, _*_, _-_}
-use mathlib.Core.Path.{_≡_, refl, sym, subst}
+use Prim.Native.Nat.{ℕ, _≤_, _<_, _+_, _*_, _-_}
+use native.Mathlib.Numerals.{add-one}
+use mathlib.Core.Path.{_≡_, refl, sym, subst, _∙_}
 use mathlib.Core.List.{_++_}
 use native.Mathlib.Omega.{arith}
 use borrow.Author.Needs.{needs}
@@ -10,7 +11,7 @@ use lib.ListN.{length, getD, take}
 use Rattle.model.specs.Profile.{domains}
 use Rattle.model.specs.WrittenList.{written, stops}
 use Rattle.list_writer.specs.Placed.{AreaRight}
-use Rattle.list_writer.proofs.Steps.{left, sequence, inside, area-right, stop-length, turn, nothing-left}
+use Rattle.list_writer.proofs.Steps.{left, sequence, inside, area-right, stop-length, stop-room, stop-reach, turn, nothing-left}
 use Rattle.list_writer.proofs.writer.put_all.Statement.{statement}
 use Rattle.list_writer.proofs.writer.put_all.Tie as tie
 
@@ -49,7 +50,7 @@ shared-slice-read-put-stop : tie.Need-shared-slice-read-put-stop Inv-loop μ-loo
 shared-slice-read-put-stop c =
     let a = c .before .before .before .before .before .before .before .before .before .before .before .before .before .args in
     let s = sequence (now (a .profile)) (now (a .indexes)) (now (a .marks)) (now (a .nodes)) (c .before .before .before .before .before .before .before .before .before .before .before .before .before .pre .0) in
-    omega (arith, s .as-many-marks, c .before .before .before .before .before .before .loop-test .taken)
+    subst (λ (n : ℕ). c .before .before .before .before .before .before .before .loop .i < n) (sym (s .as-many-marks)) (c .before .before .before .before .before .before .loop-test .taken)
 
 mul-t12-2 : tie.Need-mul-t12-2 Inv-loop μ-loop
 mul-t12-2 c = search needs
@@ -58,7 +59,7 @@ shared-slice-read-t21 : tie.Need-shared-slice-read-t21 Inv-loop μ-loop
 shared-slice-read-t21 c =
     let a = c .before .before .before .before .before .before .before .before .before .before .before .before .before .before .args in
     let s = sequence (now (a .profile)) (now (a .indexes)) (now (a .marks)) (now (a .nodes)) (c .before .before .before .before .before .before .before .before .before .before .before .before .before .before .pre .0) in
-    omega (arith, s .as-many-nodes, c .before .before .before .before .before .before .before .loop-test .taken)
+    subst (λ (n : ℕ). c .before .before .before .before .before .before .before .before .loop .i < n) (sym (s .as-many-nodes)) (c .before .before .before .before .before .before .before .loop-test .taken)
 
 put-stop-requires : tie.Need-put-stop-requires Inv-loop μ-loop
 put-stop-requires c κs =
@@ -67,7 +68,7 @@ put-stop-requires c κs =
     let l = c .before .before .before .before .before .before .before .before .loop in
     let s = sequence (now (a .profile)) (now (a .indexes)) (now (a .marks)) (now (a .nodes)) w in
     let h = c .before .before .before .before .before .before .before .loop-test .taken in
-    (omega (arith, s .most), subst AreaRight (sym (c .before .before .before .before .domain-at .ensures)) (area-right (now (a .profile)) (now (a .indexes)) (now (a .marks)) (now (a .nodes)) w (l .i) h))
+    (stop-room (l .inv .1) h (s .most) (l .inv .2 ∙ c .before .before .before .before .before .before .before .before .before .before .before .before .before .before .pre .1), subst AreaRight (sym (c .before .before .before .before .domain-at .ensures)) (area-right (now (a .profile)) (now (a .indexes)) (now (a .marks)) (now (a .nodes)) w (l .i) h))
 
 add-i : tie.Need-add-i Inv-loop μ-loop
 add-i c = search needs
@@ -90,10 +91,10 @@ loop-again c =
     let d = c .before .before .before .before .before .before .before .domain-at in
     let put = c .before .before .put-stop .ensures in
     let most = stop-length (getD M (l .i) 0) (getD N (l .i) 0) (again .result) (d .result) (subst AreaRight (sym (d .ensures)) (area-right P D M N w (l .i) h)) in (
-      omega arith,
-      omega (arith, put .next, most),
+      rw add-one h,
+      stop-reach (l .i) (l .inv .1) (put .next) most,
       search needs,
-      turn P D M N w (l .i) h (l .before) (again .result) (d .result) (d .ensures) (again .ensures) (l .at) _ (l .out) _ (omega (arith, s .most, h, l .inv .1, l .inv .2, c .before .before .before .before .before .before .before .before .before .before .before .before .before .before .before .before .before .pre .1)) put (l .inv .3),
+      turn P D M N w (l .i) h (l .before) (again .result) (d .result) (d .ensures) (again .ensures) (l .at) _ (l .out) _ (stop-room (l .inv .1) h (s .most) (l .inv .2 ∙ c .before .before .before .before .before .before .before .before .before .before .before .before .before .before .before .before .before .pre .1)) put (l .inv .3),
     )
 
 same-length : tie.Need-same-length Inv-loop μ-loop

@@ -24,16 +24,10 @@ unwritable-requires c κs =
     let header = (accepted version1 (now (c .before .before .before .before .before .args .profile)) (c .before .before .before .before .before .pre)) .hasHeader in
     omega arith
 
-refused-requires : tie.Need-refused-requires
-refused-requires c κs = search needs
-
 returns : tie.Need-returns
 returns c =
-    let a = c .before .before .before .before .before .before .before .before .args in
-    refused-sequence (now (a .profile)) (now (a .domains)) (now (a .pinned)) (now (a .pins)) (now (a .out)) _
-    (c .before .before .before .before .before .before .before .before .pre)
-    (sym (c .before .before .unwritable .ensures) ∙ c .before .if1 .taken)
-    (c .refused .ensures)
+    let a = c .before .before .before .before .before .before .before .args in
+    refused-sequence (now (a .profile)) (now (a .domains)) (now (a .pinned)) (now (a .pins)) (now (a .out)) (c .before .before .before .before .before .before .before .pre) (sym (c .before .unwritable .ensures) ∙ c .if1 .taken)
 
 slice-aggregate-put-all : tie.Need-slice-aggregate-put-all
 slice-aggregate-put-all c = search needs
@@ -57,30 +51,22 @@ put-bytes-requires c κs =
     (put .ensures)
     (count .ensures)
 
-refused-requires-2 : tie.Need-refused-requires-2
-refused-requires-2 c κs = search needs
-
 same-length : tie.Need-same-length
 same-length c = search needs
 
 returns-2 : tie.Need-returns-2
 returns-2 c =
-    let a = c .before .before .before .before .before .before .before .before .before .before .before .before .before .before .before .before .before .before .args in
-    let put = c .before .before .before .before .before .before .before .before .before .put-all in
-    let count = c .before .before .before .before .before .before .before .all-or-none in
-    too-small (now (a .profile)) (now (a .domains)) (now (a .pinned)) (now (a .pins)) (can-write (c .before .before .before .before .before .before .before .before .before .before .before)) (now (a .out)) (put .last .1 .1 .1 .1 .0) (put .result) (count .result)
-    (search needs)
-    (put .ensures)
-    (count .ensures)
+    let a = c .before .before .before .before .before .before .before .before .before .before .before .before .before .before .before .before .before .args in
+    let put = c .before .before .before .before .before .before .before .before .put-all in
+    let count = c .before .before .before .before .before .before .all-or-none in
+    too-small (now (a .profile)) (now (a .domains)) (now (a .pinned)) (now (a .pins)) (can-write (c .before .before .before .before .before .before .before .before .before .before)) (now (a .out)) (put .last .1 .1 .1 .1 .0) (put .result) (count .result) (search needs) (put .ensures) (count .ensures)
     _
     _
-    (c .before .before .before .before .put-bytes .ensures)
-    _
-    (c .before .if2 .taken)
-    (c .refused2 .ensures)
+    (c .before .before .before .put-bytes .ensures)
+    (c .if2 .taken)
 
-cast-t18 : tie.Need-cast-t18
-cast-t18 c = search needs
+cast-t20 : tie.Need-cast-t20
+cast-t20 c = search needs
 
 same-length-2 : tie.Need-same-length-2
 same-length-2 c = search needs
@@ -90,10 +76,7 @@ returns-3 c =
     let a = c .before .before .before .before .before .before .before .before .before .before .before .before .before .before .before .before .before .args in
     let put = c .before .before .before .before .before .before .before .before .put-all in
     let count = c .before .before .before .before .before .before .all-or-none in
-    all-written (now (a .profile)) (now (a .domains)) (now (a .pinned)) (now (a .pins)) (can-write (c .before .before .before .before .before .before .before .before .before .before)) (now (a .out)) (put .last .1 .1 .1 .1 .0) (put .result) (count .result)
-    (search needs)
-    (put .ensures)
-    (count .ensures)
+    all-written (now (a .profile)) (now (a .domains)) (now (a .pinned)) (now (a .pins)) (can-write (c .before .before .before .before .before .before .before .before .before .before)) (now (a .out)) (put .last .1 .1 .1 .1 .0) (put .result) (count .result) (search needs) (put .ensures) (count .ensures)
     _
     _
     (c .before .before .before .put-bytes .ensures)
@@ -104,16 +87,14 @@ write-accepted-spec =
     tie.close
     (tie.spec
     unwritable-requires
-    refused-requires
     returns
     slice-aggregate-put-all
     put-all-requires
     all-or-none-requires
     slice-aggregate-put-bytes
     put-bytes-requires
-    refused-requires-2
     same-length
     returns-2
-    cast-t18
+    cast-t20
     same-length-2
     returns-3)
