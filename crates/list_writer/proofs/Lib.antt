@@ -3,4 +3,3 @@ pub mod Places
 pub mod Parts
 pub mod Steps
 pub mod Outcomes
-pub mod RoundTrip

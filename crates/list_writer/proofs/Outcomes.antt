@@ -1,11 +1,12 @@
 -- The outcomes of `write_list` on an accepted profile: 35, 34, or the list. By which of the checks of `writeList` refuses.
-use Prim.Native.Nat.{ℕ, _≤_, _<_}
+use Prim.Native.Nat.{ℕ, _+_, _≤_, _<_}
+use native.Mathlib.Nat.{zero-add}
 use native.Mathlib.Omega.{arith}
 use mathlib.Core.Path.{_≡_, refl, sym, ap, _∙_}
 use mathlib.Core.Bool.{Bool, true, false}
-use mathlib.Core.List.{List}
+use mathlib.Core.List.{List, _++_}
 use lib.Dec.{leb, ltb}
-use lib.ListN.{length, take}
+use lib.ListN.{length, take, drop}
 use lib.Seq.{length-take-le}
 use borrow.Author.Tests.{leb-true, leb-false, lt-ltb, le-ltb}
 use Rattle.model.specs.declared.Refusal.{Refusal}
@@ -20,7 +21,12 @@ use Rattle.model.specs.WrittenList.{stops, written, unwritable}
 use Rattle.model.specs.Answers.{numbersOfWrite, refused2, done2}
 use Rattle.model.specs.Calls.{Outcome, nothing, answerWrite, writeList}
 use Rattle.laws.proofs.Lists.{over-nothing}
-use Rattle.list_writer.specs.Writing.{Writable, AllPut, allIf, allOrNone, refusedBy, WrittenBy}
+use Rattle.list_writer.specs.Placed.{Put}
+use Rattle.list_writer.specs.Writing.{Writable, AllPut, allIf, allOrNone, WrittenBy}
+
+-- a refusal that has place 0
+abbrev refusedBy : ℕ → WriteAnswer
+refusedBy n = Refused (record { number = n; place = 0 })
 
 module _ (profile indexes marks nodes : List ℕ) where
   bytes : List ℕ
@@ -42,10 +48,9 @@ module _ (profile indexes marks nodes : List ℕ) where
   refused-profile entry r e = by-outcome entry entry (Refused r) (nothing (refused2 r)) (outcome-by (length entry) (Refuse r) _ _ e refl refl) refl (sym (over-nothing entry))
 
   -- a sequence that can't be written
-  pub refused-sequence : (entry : List ℕ) (answer : WriteAnswer) → profileVerdict version1 profile ≡ Pass → unwritable (domains profile) indexes marks nodes ≡ true
-      → answer ≡ refusedBy 35 → WrittenBy profile indexes marks nodes entry entry answer
-  refused-sequence entry answer e f a =
-      by-outcome entry entry answer (nothing (refused2 (record { number = 35; place = 0 }))) (outcome-by (length entry) Pass true _ e f refl) (ap numbersOfWrite a) (sym (over-nothing entry))
+  pub refused-sequence : (entry : List ℕ) → profileVerdict version1 profile ≡ Pass → unwritable (domains profile) indexes marks nodes ≡ true
+      → WrittenBy profile indexes marks nodes entry entry (refusedBy 35)
+  refused-sequence entry e f = by-outcome entry entry (refusedBy 35) (nothing (refused2 (record { number = 35; place = 0 }))) (outcome-by (length entry) Pass true _ e f refl) refl (sym (over-nothing entry))
 
   -- the whole list stands at the start of `buffer`, and `count` bytes of it were copied
   module _ (w : Writable profile indexes marks nodes) (entry buffer : List ℕ) (n count : ℕ) (l : length buffer ≡ 576) (p : AllPut profile indexes marks nodes buffer n)
@@ -58,8 +63,8 @@ module _ (profile indexes marks nodes : List ℕ) where
     all-fits true e c = let h = leb-true n (length entry) e in (omega arith, omega arith)
     all-fits false e c = (omega arith, omega arith)
 
-    pub fits : (count ≤ length buffer) × (count ≤ length entry)
-    fits = let h = all-fits (leb n (length entry)) refl k in (omega (arith, p .within), h .1)
+    pub fits : (0 + count ≤ length entry) × (count ≤ length buffer)
+    fits = let h = all-fits (leb n (length entry)) refl k in (omega arith, omega (arith, p .within))
 
     none-copied : (b : Bool) → leb n (length entry) ≡ b → count ≡ allIf b n → count < n → (length entry < n) × (count ≡ 0)
     none-copied true e c h = absurd (omega arith)
@@ -69,14 +74,18 @@ module _ (profile indexes marks nodes : List ℕ) where
     all-copied true e c h = (leb-true n (length entry) e, c)
     all-copied false e c h = (omega arith, omega arith)
 
-    module _ (exit : List ℕ) (x : exit ≡ over (take count buffer) entry) where
-      pub too-small : (answer : WriteAnswer) → count < n → answer ≡ refusedBy 34 → WrittenBy profile indexes marks nodes entry exit answer
-      too-small answer h a =
+    module _ (exit : List ℕ) (after : ℕ) (put : Put 0 (take count buffer) entry exit after) where
+      copied : exit ≡ over (take count buffer) entry
+      unfolding over
+      copied = put .holds ∙ ap (λ (m : ℕ). take count buffer ++ drop m entry) (zero-add (length (take count buffer)))
+
+      pub too-small : count < n → WrittenBy profile indexes marks nodes entry exit (refusedBy 34)
+      too-small h =
           let none = none-copied (leb n (length entry)) refl k h in
-          by-outcome entry exit answer (nothing (refused2 (record { number = 34; place = 0 })))
+          by-outcome entry exit (refusedBy 34) (nothing (refused2 (record { number = 34; place = 0 })))
           (outcome-by (length entry) Pass false true (w .accepted) (w .writable) (lt-ltb (length entry) (length bytes) (omega (arith, needed))))
-          (ap numbersOfWrite a)
-          (x ∙ ap (λ (c : ℕ). over (take c buffer) entry) (none .1))
+          refl
+          (copied ∙ ap (λ (c : ℕ). over (take c buffer) entry) (none .1))
 
       pub all-written : n ≤ count → WrittenBy profile indexes marks nodes entry exit (Written n)
       unfolding bytes
@@ -85,4 +94,4 @@ module _ (profile indexes marks nodes : List ℕ) where
           by-outcome entry exit (Written n) (record { numbers = done2 (length bytes); written = bytes })
           (outcome-by (length entry) Pass false false (w .accepted) (w .writable) (le-ltb (length entry) (length bytes) (omega (arith, needed))))
           (ap done2 (sym needed))
-          (x ∙ ap (λ (c : ℕ). over (take c buffer) entry) (all .1) ∙ ap (λ (s : List ℕ). over s entry) (p .bytes))
+          (copied ∙ ap (λ (c : ℕ). over (take c buffer) entry) (all .1) ∙ ap (λ (s : List ℕ). over s entry) (p .bytes))

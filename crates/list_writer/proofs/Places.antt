@@ -1,12 +1,12 @@
--- Bytes put from a place on: nothing, one byte more, and one run after the other. From the library's facts on copies (`lib.Seq`'s paste) and on runs of stores.
+-- Bytes put from a place on: nothing, one byte more, and one run after the other. From the library's facts on copies (`lib.Seq`'s paste).
 use mathlib.Core.Path.{_≡_, refl, sym, ap, ap₂, subst, _∙_}
 use mathlib.Core.List.{List, [], _∷_, _++_, append-assoc, append-nil}
-use Prim.Native.Nat.{ℕ, _+_, _≤_, _<_}
+use Prim.Native.Nat.{ℕ, zero, suc, _+_, _≤_, _<_}
 use native.Mathlib.Nat.{add-zero, add-assoc}
-use native.Mathlib.Numerals.{add-one, towards-suc}
+use native.Mathlib.Numerals.{add-one}
 use native.Mathlib.Omega.{arith}
-use lib.ListN.{length, getD, take, drop, set, replicate, take-append-drop, length-append, length-drop, length-replicate, getD-replicate}
-use lib.Seq.{length-take-le, take-all, take-at, drop-drop, drop-append-add, paste, paste-suc, sets-eq}
+use lib.ListN.{length, getD, take, drop, set, replicate, take-append-drop, length-append, length-drop}
+use lib.Seq.{length-take-le, take-at, drop-drop, drop-append-add, paste, paste-suc}
 use Rattle.list_writer.specs.Placed.{placed, Put}
 
 -- ---- one byte more of a run
@@ -20,22 +20,10 @@ all-put old new run at j n e h p =
     let l : length (take n run) ≡ n = length-take-le n run h in
     record { holds = rw l (subst (λ (k : ℕ). new ≡ paste old at run k) e p); next = rw l refl }
 
-pub zero-more : (old new : List ℕ) (at j n : ℕ) → at + j < length old → j < n → new ≡ paste old at (replicate n 0) j
-    → set new (at + j) 0 ≡ paste old at (replicate n 0) (j + 1)
-zero-more old new at j n h k e =
-    subst (λ (x : ℕ). set new (at + j) x ≡ paste old at (replicate n 0) (j + 1)) (getD-replicate n j 0 0 k)
-    (one-more old new (replicate n 0) at j h (rw length-replicate k) e)
-
-pub zeros-put : (old new : List ℕ) (at j n : ℕ) → j ≡ n → new ≡ paste old at (replicate n 0) j → Put at (replicate n 0) old new (at + n)
-zeros-put old new at j n e p =
-    let l : length {A = ℕ} (replicate n 0) ≡ n = length-replicate n 0 in
-    subst (λ (s : List ℕ). Put at s old new (at + n)) (take-all n (replicate n 0) (omega arith)) (all-put old new (replicate n 0) at j n e (omega arith) p)
-
--- ---- four bytes, each stored by itself
-
-pub four-put : (s : List ℕ) (at a b c d : ℕ) → at + 4 ≤ length s
-    → Put at (a ∷ b ∷ c ∷ d ∷ []) s (set (set (set (set s at a) (at + 1) b) (at + 2) c) (at + 3) d) (at + 4)
-four-put s at a b c d h = record { holds = simp towards-suc (simp towards-suc at (sets-eq (a ∷ b ∷ c ∷ d ∷ []) s at h)); next = refl }
+pub take-replicate : (k n x : ℕ) → k ≤ n → take k (replicate n x) ≡ replicate k x
+take-replicate zero n x h = refl
+take-replicate (suc k) zero x h = absurd (omega arith)
+take-replicate (suc k) (suc n) x h = ap (λ (s : List ℕ). x ∷ s) (take-replicate k n x (omega arith))
 
 -- ---- nothing, and one run after the other
 

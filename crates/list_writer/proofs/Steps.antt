@@ -1,5 +1,5 @@
 -- One turn of the loop that writes a list: what is put for a stop, and what is left to write after it. From the laws of sequences by index and of accepted profiles.
-use Prim.Native.Nat.{ℕ, zero, suc, _+_, _≤_, _<_}
+use Prim.Native.Nat.{ℕ, zero, suc, _+_, _*_, _≤_, _<_}
 use native.Mathlib.Numerals.{add-one}
 use native.Mathlib.Omega.{arith}
 use mathlib.Core.Path.{_≡_, refl, sym, ap, ap₂, _∙_}
@@ -30,6 +30,13 @@ stop-length mark node again d r =
     let system = system-length again (d .asn) in
     let area = area-length d r in
     simp length-append (omega arith)
+
+-- the next stop has room, and how far the stops reach after it
+pub stop-room : {at i n size : ℕ} → at ≤ 36 * i → i < n → n ≤ 16 → size ≡ 576 → at + 36 ≤ size
+stop-room a h m e = omega arith
+
+pub stop-reach : {at next size : ℕ} (i : ℕ) → at ≤ 36 * i → next ≡ at + size → size ≤ 36 → next ≤ 36 * (i + 1)
+stop-reach i a e m = omega arith
 
 again-system : (i before asn : ℕ) → systemIf (systemAgain i before asn) asn ≡ systemAfter (beforeOf i before) asn
 again-system zero before asn = refl
@@ -81,14 +88,14 @@ module _ (profile indexes marks nodes : List ℕ) (w : Writable profile indexes 
           (sym (ap (λ (b : Bool). systemIf b (d .asn)) f ∙ again-system i before (d .asn)))
 
       -- the stop's bytes are put after those before it, and the rest is left
-      pub turn : (at next : ℕ) (out new : List ℕ) → at ≤ length out
+      pub turn : (at next : ℕ) (out new : List ℕ) → at + 36 ≤ length out
           → Put at (stopBytes (getD marks i 0) (getD nodes i 0) again d) out new next
           → take at out ++ left profile indexes marks nodes i before ≡ written (domains profile) (stops indexes marks nodes)
           → take next new ++ left profile indexes marks nodes (i + 1) (d .asn) ≡ written (domains profile) (stops indexes marks nodes)
       turn at next out new k p done =
           let bytes : List ℕ = stopBytes (getD marks i 0) (getD nodes i 0) again d in
           let rest : List ℕ = left profile indexes marks nodes (suc i) (d .asn) in
-          let so-far : take next new ≡ take at out ++ bytes = ap₂ (λ (n : ℕ) (s : List ℕ). take n s) (p .next) (p .holds) ∙ placed-take out bytes at k in
+          let so-far : take next new ≡ take at out ++ bytes = ap₂ (λ (n : ℕ) (s : List ℕ). take n s) (p .next) (p .holds) ∙ placed-take out bytes at (omega arith) in
           rw add-one
           (ap (λ (s : List ℕ). s ++ rest) so-far
           ∙ append-assoc (take at out) bytes rest

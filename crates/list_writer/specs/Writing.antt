@@ -8,7 +8,6 @@ use lib.Dec.{eqb, leb}
 use lib.ListN.{length, take}
 use Rattle.model.specs.declared.Verdict.the-variants.{Pass}
 use Rattle.model.specs.declared.WriteAnswer.{WriteAnswer}
-use Rattle.model.specs.declared.WriteAnswer.the-variants.{Refused}
 use Rattle.model.specs.Lists.{over}
 use Rattle.model.specs.Profile.{version1, profileVerdict, domains}
 use Rattle.model.specs.WrittenList.{stops, written, unwritable}
@@ -42,10 +41,6 @@ allIf false n = 0
 
 abbrev pub allOrNone : ℕ → ℕ → ℕ
 allOrNone n room = allIf (leb n room) n
-
--- a refusal has place 0
-abbrev pub refusedBy : ℕ → WriteAnswer
-refusedBy n = Refused (record { number = n; place = 0 })
 
 -- the numbers answered and the buffer at exit are those of the definition
 pub record WrittenBy (profile indexes marks nodes entry exit : List ℕ) (answer : WriteAnswer) : Type 0 where

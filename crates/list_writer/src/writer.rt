@@ -5,9 +5,12 @@ ghost use lib.ListN.{length, take};
 ghost use Rattle.model.specs.declared.Verdict.the-variants.{Pass};
 ghost use Rattle.model.specs.Lists.{over};
 ghost use Rattle.model.specs.Profile.{version1, profileVerdict, domains};
-ghost use Rattle.list_writer.specs.Writing.{systemAgain, Writable, AllPut, allOrNone, refusedBy, WrittenBy};
+ghost use Rattle.list_writer.specs.Writing.{systemAgain, Writable, AllPut, allOrNone, WrittenBy};
+use crate::put::put_bytes;
 use crate::put::put_stop;
 use crate::unwritable::unwritable;
+use model::DomainIndex;
+use model::NodeAddress;
 use model::Refusal;
 use model::Verdict;
 use model::WriteAnswer;
@@ -33,9 +36,10 @@ fn put_all(profile: &[u8], indexes: &[u16], marks: &[u8], nodes: &[u32], out: &m
     let mut before: u32 = 0;
     let mut i = 0;
     while i < indexes.len() {
-        let d = domain_at(profile, indexes[i] as usize);
+        let x = DomainIndex(indexes[i]);
+        let d = domain_at(profile, x.0 as usize);
         let again = same_system(i, before, d.asn);
-        at = put_stop(out, at, marks[i], nodes[i], again, d);
+        at = put_stop(out, at, marks[i], NodeAddress(nodes[i]), again, d);
         before = d.asn;
         i += 1;
     }
@@ -52,24 +56,6 @@ fn all_or_none(n: usize, room: usize) -> usize
     n
 }
 
-// The first `n` bytes over the start of a buffer.
-fn copy_start(bytes: &[u8], n: usize, out: &mut [u8])
-    requires { ⌜ (n ≤ length (now bytes)) × (n ≤ length (now out)) ⌝ }
-    ensures { λ _. ⌜ now (out .exit) ≡ over (take n (now (bytes .entry))) (now (out .entry)) ⌝ }
-{
-    let mut i = 0;
-    while i < n {
-        out[i] = bytes[i];
-        i += 1;
-    }
-}
-
-fn refused(number: u32) -> WriteAnswer
-    ensures { λ r. ⌜ r ≡ refusedBy number ⌝ }
-{
-    WriteAnswer::Refused(Refusal { number, place: 0 })
-}
-
 // The written list for an accepted profile: 35, 34, and then the bytes.
 fn write_accepted(
     profile: &[u8],
@@ -82,14 +68,20 @@ fn write_accepted(
     ensures { λ r. ⌜ WrittenBy (now (profile .entry)) (now (domains .entry)) (now (pinned .entry)) (now (pins .entry)) (now (out .entry)) (now (out .exit)) r ⌝ }
 {
     if unwritable(profile, domains, pinned, pins) {
-        return refused(35);
+        return WriteAnswer::Refused(Refusal {
+            number: 35,
+            place: 0,
+        });
     }
     let mut bytes = [0u8; 576];
     let n = put_all(profile, domains, pinned, pins, &mut bytes);
     let count = all_or_none(n, out.len());
-    copy_start(&bytes, count, out);
+    put_bytes(out, 0, &bytes, count);
     if count < n {
-        return refused(34);
+        return WriteAnswer::Refused(Refusal {
+            number: 34,
+            place: 0,
+        });
     }
     WriteAnswer::Written { length: n as u32 }
 }

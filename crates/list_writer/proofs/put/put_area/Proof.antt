@@ -12,27 +12,33 @@ returns c =
     let a = c .before .before .before .before .args in
     no-area (a .d) (a .at) (now (a .out)) (c .if1 .taken)
 
-put-head-requires : tie.Need-put-head-requires
-put-head-requires c κs = search needs
+slice-aggregate-put-bytes : tie.Need-slice-aggregate-put-bytes
+slice-aggregate-put-bytes c = search needs
+
+put-bytes-requires : tie.Need-put-bytes-requires
+put-bytes-requires c κs = search needs
+
+slice-aggregate-put-bytes-2 : tie.Need-slice-aggregate-put-bytes-2
+slice-aggregate-put-bytes-2 c = search needs
 
 cast-put-bytes : tie.Need-cast-put-bytes
 cast-put-bytes c = search needs
 
-put-bytes-requires : tie.Need-put-bytes-requires
-put-bytes-requires c κs =
-    let p = c .before .before .before .before .before .before .before .before .before .before .before .before .pre in
-    let d = c .before .before .before .before .before .before .before .before .before .before .before .before .args .d in
+put-bytes-requires-2 : tie.Need-put-bytes-requires-2
+put-bytes-requires-2 c κs =
+    let p = c .before .before .before .before .before .before .before .before .before .before .before .before .before .before .pre in
+    let d = c .before .before .before .before .before .before .before .before .before .before .before .before .before .before .args .d in
     let most = fits-short (d .kind) (d .length) (p .1 .fits) in
-    let next = c .before .before .before .before .put-head .ensures .next in
-    (omega arith, most, p .1 .whole)
+    let next = c .before .before .before .before .before .put-bytes .ensures .next in
+    (omega arith, omega (arith, p .1 .whole))
 
 same-length : tie.Need-same-length
 same-length c = search needs
 
 returns-2 : tie.Need-returns-2
 returns-2 c =
-    let a = c .before .before .before .before .before .before .before .before .before .before .before .before .before .before .before .args in
-    ospf-put (a .d) (a .at) _ _ (now (a .out)) _ _ (c .before .before .before .before .before .before .before .before .before .if2 .taken) (omega arith) (c .before .before .before .before .before .before .before .put-head .ensures) (c .before .before .put-bytes .ensures)
+    let a = c .before .before .before .before .before .before .before .before .before .before .before .before .before .before .before .before .before .args in
+    ospf-put (a .d) (a .at) _ _ (now (a .out)) _ _ (c .before .before .before .before .before .before .before .before .before .before .before .if2 .taken) (omega arith) (c .before .before .before .before .before .before .before .before .put-bytes .ensures) (c .before .before .put-bytes2 .ensures)
 
 put-isis-requires : tie.Need-put-isis-requires
 put-isis-requires c κs =
@@ -54,9 +60,11 @@ put-area-spec =
     tie.close
     (tie.spec
     returns
-    put-head-requires
-    cast-put-bytes
+    slice-aggregate-put-bytes
     put-bytes-requires
+    slice-aggregate-put-bytes-2
+    cast-put-bytes
+    put-bytes-requires-2
     same-length
     returns-2
     put-isis-requires

@@ -11,16 +11,16 @@ use Rattle.list_writer.proofs.put.put_bytes.Statement.{statement}
 use Rattle.list_writer.proofs.put.put_bytes.Tie as tie
 
 abbrev Inv-loop : tie.InvT-loop
-Inv-loop out₀ at n bytes j₀ out j = (j ≤ n) × (out ≡ paste out₀ at bytes j) × (length out ≡ length out₀)
+Inv-loop out₀ at bytes n j₀ out j = (j ≤ n) × (out ≡ paste out₀ at bytes j) × (length out ≡ length out₀)
 
 abbrev μ-loop : tie.MeasureT-loop
-μ-loop out₀ at n bytes j₀ out j = n - j
+μ-loop out₀ at bytes n j₀ out j = n - j
 
 loop-holds : tie.Need-loop-holds Inv-loop μ-loop
-loop-holds c = (omega arith, paste-zero (now (c .args .out)) (c .args .at) (c .args .t3), refl)
+loop-holds c = (omega arith, paste-zero (now (c .args .out)) (c .args .at) (now (c .args .bytes)), refl)
 
-array-read-out : tie.Need-array-read-out Inv-loop μ-loop
-array-read-out c = search needs
+shared-slice-read-out : tie.Need-shared-slice-read-out Inv-loop μ-loop
+shared-slice-read-out c = search needs
 
 add-out : tie.Need-add-out Inv-loop μ-loop
 add-out c = search needs
@@ -36,9 +36,9 @@ loop-less c = search needs
 
 loop-again : tie.Need-loop-again Inv-loop μ-loop
 loop-again c =
-    let l = c .before .loop in
-    let a = c .before .before .args in
-    (omega arith, one-more (now (a .out)) (l .out) (a .t3) (a .at) (l .j) (omega arith) (omega arith) (l .inv .1), simp length-set (l .inv .2))
+    let l = c .before .before .loop in
+    let a = c .before .before .before .args in
+    (omega arith, one-more (now (a .out)) (l .out) (now (a .bytes)) (a .at) (l .j) (omega arith) (omega arith) (l .inv .1), simp length-set (l .inv .2))
 
 add-result : tie.Need-add-result Inv-loop μ-loop
 add-result c = search needs
@@ -50,7 +50,7 @@ returns : tie.Need-returns Inv-loop μ-loop
 returns c =
     let l = c .before .loop in
     let a = c .before .before .args in
-    all-put (now (a .out)) (l .out) (a .t3) (a .at) (l .j) (a .n) (omega arith) (omega arith) (l .inv .1)
+    all-put (now (a .out)) (l .out) (now (a .bytes)) (a .at) (l .j) (a .n) (omega arith) (omega arith) (l .inv .1)
 
 pub put-bytes-spec : {M : Type 1} → statement M
 put-bytes-spec =
@@ -59,7 +59,7 @@ put-bytes-spec =
     Inv-loop
     μ-loop
     loop-holds
-    array-read-out
+    shared-slice-read-out
     add-out
     slice-write-out
     add-j

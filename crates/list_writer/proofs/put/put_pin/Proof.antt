@@ -8,7 +8,7 @@ use Rattle.list_writer.proofs.put.put_pin.Tie as tie
 returns : tie.Need-returns
 returns c =
     let a = c .before .before .args in
-    no-pin (a .mark) (a .node) (a .at) (now (a .out)) (c .if1 .taken)
+    no-pin (a .mark) (a .node .0) (a .at) (now (a .out)) (c .if1 .taken)
 
 put-u16-requires : tie.Need-put-u16-requires
 put-u16-requires c κs = search needs
@@ -34,7 +34,7 @@ same-length c = search needs
 returns-2 : tie.Need-returns-2
 returns-2 c =
     let a = c .before .before .before .before .before .before .before .before .before .before .before .before .before .before .args in
-    pin-put (a .mark) (a .node) (a .at) (now (a .out)) _ _ _ (c .before .before .before .before .before .before .before .before .before .before .before .before .if1 .left) (c .before .before .before .before .before .before .before .before .before .before .before .before .before .before .pre)
+    pin-put (a .mark) (a .node .0) (a .at) (now (a .out)) _ _ _ (c .before .before .before .before .before .before .before .before .before .before .before .before .if1 .left) (c .before .before .before .before .before .before .before .before .before .before .before .before .before .before .pre)
     (c .before .before .before .before .before .before .before .before .before .before .put-u16 .ensures)
     (c .before .before .before .before .before .before .put-u32 .ensures)
     (c .before .before .put-u162 .ensures)

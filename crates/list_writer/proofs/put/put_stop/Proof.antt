@@ -13,14 +13,14 @@ put-system-requires : tie.Need-put-system-requires
 put-system-requires c κs =
     let a = c .before .before .before .before .before .before .args in
     let system = c .before .before .before .put-pin .ensures .next in
-    let pin = pin-length (a .mark) (a .node) in
+    let pin = pin-length (a .mark) (a .node .0) in
     omega arith
 
 put-area-requires : tie.Need-put-area-requires
 put-area-requires c κs =
     let a = c .before .before .before .before .before .before .before .before .before .before .args in
     let system = c .before .before .before .before .before .before .before .put-pin .ensures .next in
-    let pin = pin-length (a .mark) (a .node) in
+    let pin = pin-length (a .mark) (a .node .0) in
     let area = c .before .before .before .put-system .ensures .next in
     let asn = system-length (a .again) (a .d .asn) in
     (omega arith, c .before .before .before .before .before .before .before .before .before .before .pre .1)
@@ -31,7 +31,7 @@ same-length c = search needs
 returns : tie.Need-returns
 returns c =
     let a = c .before .before .before .before .before .before .before .before .before .before .before .before .before .args in
-    let pin = pin-length (a .mark) (a .node) in
+    let pin = pin-length (a .mark) (a .node .0) in
     put-append (omega arith) (c .before .before .before .before .before .before .before .before .before .before .put-pin .ensures) (put-append (omega arith) (c .before .before .before .before .before .before .put-system .ensures) (c .before .before .put-area .ensures))
 
 pub put-stop-spec : {M : Type 1} → statement M

@@ -11,8 +11,11 @@ returns c =
     let a = c .before .before .args in
     no-system (a .again) (a .asn) (a .at) (now (a .out)) (c .if1 .taken)
 
-put-head-requires : tie.Need-put-head-requires
-put-head-requires c κs = search needs
+slice-aggregate-put-bytes : tie.Need-slice-aggregate-put-bytes
+slice-aggregate-put-bytes c = search needs
+
+put-bytes-requires : tie.Need-put-bytes-requires
+put-bytes-requires c κs = search needs
 
 put-u32-requires : tie.Need-put-u32-requires
 put-u32-requires c κs = search needs
@@ -25,12 +28,17 @@ same-length c = search needs
 
 returns-2 : tie.Need-returns-2
 returns-2 c =
-    let a = c .before .before .before .before .before .before .before .before .before .before .args in
-    system-put (a .again) (a .asn) (a .at) _ (now (a .out)) _ _ (c .before .before .before .before .before .before .before .before .if1 .left) (omega arith)
-    (c .before .before .before .before .before .before .put-head .ensures)
-    (c .before .before .put-u32 .ensures)
+    let a = c .before .before .before .before .before .before .before .before .before .before .before .args in
+    system-put (a .again) (a .asn) (a .at) _ (now (a .out)) _ _ (c .before .before .before .before .before .before .before .before .before .if1 .left) (omega arith) (c .before .before .before .before .before .before .put-bytes .ensures) (c .before .before .put-u32 .ensures)
 
 pub put-system-spec : {M : Type 1} → statement M
 put-system-spec =
     tie.close
-    (tie.spec returns put-head-requires put-u32-requires add-result same-length returns-2)
+    (tie.spec
+    returns
+    slice-aggregate-put-bytes
+    put-bytes-requires
+    put-u32-requires
+    add-result
+    same-length
+    returns-2)

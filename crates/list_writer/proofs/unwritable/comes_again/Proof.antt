@@ -12,7 +12,7 @@ use Rattle.list_writer.proofs.unwritable.comes_again.Statement.{stateme
 use Rattle.list_writer.proofs.unwritable.comes_again.Tie as tie
 
 abbrev Inv-loop : tie.InvT-loop
-Inv-loop indexes from x i₀ i = (i ≤ length indexes) × (any (eqb x) (drop i indexes) ≡ any (eqb x) (drop from indexes))
+Inv-loop indexes from x i₀ i = (i ≤ length indexes) × (any (eqb (x .0)) (drop i indexes) ≡ any (eqb (x .0)) (drop from indexes))
 
 abbrev μ-loop : tie.MeasureT-loop
 μ-loop indexes from x i₀ i = length indexes - i
@@ -29,9 +29,9 @@ shared-slice-read-if1 c = search needs
 returns : tie.Need-returns Inv-loop μ-loop
 unfolding among
 returns c =
-    let a = c .before .before .before .before .args in
-    let l = c .before .before .before .loop in
-    sym (any-hit (a .indexes .now) (l .i) (c .before .before .loop-test .taken) _ (eq-eqb _ _ (c .if1 .taken))) ∙ l .inv .1
+    let a = c .before .before .before .before .before .args in
+    let l = c .before .before .before .before .loop in
+    sym (any-hit (a .indexes .now) (l .i) (c .before .before .before .loop-test .taken) _ (eq-eqb _ _ (c .if1 .taken))) ∙ l .inv .1
 
 add-i : tie.Need-add-i Inv-loop μ-loop
 add-i c = search needs
@@ -41,9 +41,9 @@ loop-less c = search needs
 
 loop-again : tie.Need-loop-again Inv-loop μ-loop
 loop-again c =
-    let a = c .before .before .before .before .args in
-    let l = c .before .before .before .loop in
-    (omega arith, sym (any-miss (a .indexes .now) (l .i) (c .before .before .loop-test .taken) _ (ne-eqb _ _ (c .if1 .left))) ∙ l .inv .1)
+    let a = c .before .before .before .before .before .args in
+    let l = c .before .before .before .before .loop in
+    (omega arith, sym (any-miss (a .indexes .now) (l .i) (c .before .before .before .loop-test .taken) _ (ne-eqb _ _ (c .if1 .left))) ∙ l .inv .1)
 
 returns-2 : tie.Need-returns-2 Inv-loop μ-loop
 unfolding among

@@ -1,107 +1,79 @@
--- `unwritable::unwritable` meets its contract: the parts of 35 one after the other, the domain count being how many domain records there are.
-use Prim.Native.Nat.{ℕ}
+-- `unwritable::unwritable` meets its contract: at each `return` the tests that led there give the value, the domain count being how many domain records there are.
+use Prim.Native.Nat.{ℕ, _≤_}
 use mathlib.Core.Path.{_≡_, refl, sym, ap, _∙_}
-use mathlib.Core.Bool.{Bool, true, false, _||_}
-use mathlib.Core.List.{List}
-use lib.Dec.{leb}
-use lib.ListN.{length}
-use Rattle.model.specs.Lists.{any}
+use mathlib.Core.Bool.{Bool, true, not, _||_}
+use mathlib.Core.List.{List, [], _∷_}
+use lib.Dec.{eqb, leb, ltb}
+use lib.ListN.{length, getD}
+use borrow.Author.Tests.{eq-eqb, ne-eqb, lt-ltb, le-ltb}
+use Rattle.model.specs.Lists.{any, allDifferent}
 use Rattle.model.specs.Profile.{domainCount, domains}
-use Rattle.model.specs.WrittenList.{unwritable}
+use Rattle.model.specs.WrittenList.{firstPinned, unwritable}
 use Rattle.laws.proofs.Records.{length-domains}
+use Rattle.list_writer.proofs.Scans.{wrongFrom}
 use borrow.Author.Needs.{needs}
 use Rattle.list_writer.proofs.unwritable.unwritable.Statement.{statement}
 use Rattle.list_writer.proofs.unwritable.unwritable.Tie as tie
 
-first-holds : (a b c d e : Bool) → a ≡ true → true ≡ (a || b || c || d || e)
-first-holds a b c d e h = rw h refl
+-- past the counts, what is left of 35
+past-counts : (profile indexes marks nodes : List ℕ) (count : ℕ) → count ≡ domainCount profile
+    → (length indexes ≡ 0 → ⊥) → length indexes ≤ 16 → length marks ≡ length indexes → length nodes ≡ length indexes
+    → unwritable (domains profile) indexes marks nodes ≡ wrongFrom count indexes marks 0 || firstPinned marks
+unfolding unwritable
+past-counts profile indexes marks nodes count e some few m n =
+    simp (ne-eqb _ _ some, le-ltb _ _ few, eq-eqb _ _ m, eq-eqb _ _ n) (ap (λ (k : ℕ). wrongFrom k indexes marks 0 || firstPinned marks) (length-domains profile ∙ sym e))
 
-second-holds : (a b c d e : Bool) → a ≡ false → b ≡ true → true ≡ (a || b || c || d || e)
-second-holds a b c d e h k = rw (h, k) refl
-
-third-holds : (a b c d e : Bool) → a ≡ false → b ≡ false → c ≡ true → true ≡ (a || b || c || d || e)
-third-holds a b c d e h k l = rw (h, k, l) refl
-
-fourth-holds : (a b c d e : Bool) → a ≡ false → b ≡ false → c ≡ false → d ≡ true → true ≡ (a || b || c || d || e)
-fourth-holds a b c d e h k l m = rw (h, k, l, m) refl
-
-last-decides : (a b c d e : Bool) → a ≡ false → b ≡ false → c ≡ false → d ≡ false → e ≡ (a || b || c || d || e)
-last-decides a b c d e h k l m = rw (h, k, l, m) refl
-
--- the index test, by how many domain records there are
-counted : (s indexes : List ℕ) (n : ℕ) → n ≡ domainCount s → any (λ (d : ℕ). leb n d) indexes ≡ any (λ (d : ℕ). leb (length (domains s)) d) indexes
-counted s indexes n e = ap (λ (m : ℕ). any (λ (d : ℕ). leb m d) indexes) (e ∙ sym (length-domains s))
-
-counts-wrong-requires : tie.Need-counts-wrong-requires
-counts-wrong-requires c κs = search needs
+first : (s : List ℕ) → (length s ≡ 0 → ⊥) → not (eqb (getD s 0 0) 0) ≡ firstPinned s
+first [] h = absurd (h refl)
+first (m ∷ s) h = refl
 
 returns : tie.Need-returns
 unfolding unwritable
-returns c =
-    first-holds _ _ _ _ _
-    (sym (c .before .counts-wrong .ensures) ∙ c .if1 .taken)
+returns c = simp (eq-eqb _ _ (c .if1 .taken))
+
+returns-2 : tie.Need-returns-2
+unfolding unwritable
+returns-2 c = simp (ne-eqb _ _ (c .before .if1 .left), lt-ltb _ _ (c .if2 .taken))
+
+returns-3 : tie.Need-returns-3
+unfolding unwritable
+returns-3 c = simp (ne-eqb _ _ (c .before .before .if1 .left), le-ltb _ _ (c .before .if2 .left), ne-eqb _ _ (c .if3 .taken))
+
+returns-4 : tie.Need-returns-4
+unfolding unwritable
+returns-4 c = simp (ne-eqb _ _ (c .before .before .before .if1 .left), le-ltb _ _ (c .before .before .if2 .left), eq-eqb _ _ (c .before .if3 .left), ne-eqb _ _ (c .if4 .taken))
 
 u16-at-requires : tie.Need-u16-at-requires
 u16-at-requires c κs = search needs
 
-index-over-requires : tie.Need-index-over-requires
-index-over-requires c κs = search needs
-
-returns-2 : tie.Need-returns-2
-unfolding unwritable
-returns-2 c =
-    second-holds _ _ _ _ _
-    (sym (c .before .before .before .before .counts-wrong .ensures) ∙ c .before .before .before .if1 .left)
-    (sym (counted (c .before .before .before .before .before .before .before .before .before .args .profile .now) (c .before .before .before .before .before .before .before .before .before .args .indexes .now) _ (c .before .before .u16-at .ensures)) ∙ sym (c .before .index-over .ensures) ∙ c .if2 .taken)
-
-twice-requires : tie.Need-twice-requires
-twice-requires c κs = search needs
-
-returns-3 : tie.Need-returns-3
-unfolding unwritable
-returns-3 c =
-    third-holds _ _ _ _ _
-    (sym (c .before .before .before .before .before .before .counts-wrong .ensures) ∙ c .before .before .before .before .before .if1 .left)
-    (sym (counted (c .before .before .before .before .before .before .before .before .before .before .before .args .profile .now) (c .before .before .before .before .before .before .before .before .before .before .before .args .indexes .now) _ (c .before .before .before .before .u16-at .ensures)) ∙ sym (c .before .before .before .index-over .ensures) ∙ c .before .before .if2 .left)
-    (sym (c .before .twice .ensures) ∙ c .if3 .taken)
-
-mark-over-requires : tie.Need-mark-over-requires
-mark-over-requires c κs = search needs
-
-returns-4 : tie.Need-returns-4
-unfolding unwritable
-returns-4 c =
-    fourth-holds _ _ _ _ _
-    (sym (c .before .before .before .before .before .before .before .before .counts-wrong .ensures) ∙ c .before .before .before .before .before .before .before .if1 .left)
-    (sym (counted (c .before .before .before .before .before .before .before .before .before .before .before .before .before .args .profile .now) (c .before .before .before .before .before .before .before .before .before .before .before .before .before .args .indexes .now) _ (c .before .before .before .before .before .before .u16-at .ensures)) ∙ sym (c .before .before .before .before .before .index-over .ensures) ∙ c .before .before .before .before .if2 .left)
-    (sym (c .before .before .before .twice .ensures) ∙ c .before .before .if3 .left)
-    (sym (c .before .mark-over .ensures) ∙ c .if4 .taken)
-
-first-pinned-requires : tie.Need-first-pinned-requires
-first-pinned-requires c κs = search needs
+stop-wrong-requires : tie.Need-stop-wrong-requires
+stop-wrong-requires c κs = search needs
 
 returns-5 : tie.Need-returns-5
-unfolding unwritable
 returns-5 c =
-    c .first-pinned .ensures
-    ∙ last-decides _ _ _ _ _
-    (sym (c .before .before .before .before .before .before .before .before .before .counts-wrong .ensures) ∙ c .before .before .before .before .before .before .before .before .if1 .left)
-    (sym (counted (c .before .before .before .before .before .before .before .before .before .before .before .before .before .before .args .profile .now) (c .before .before .before .before .before .before .before .before .before .before .before .before .before .before .args .indexes .now) _ (c .before .before .before .before .before .before .before .u16-at .ensures)) ∙ sym (c .before .before .before .before .before .before .index-over .ensures) ∙ c .before .before .before .before .before .if2 .left)
-    (sym (c .before .before .before .before .twice .ensures) ∙ c .before .before .before .if3 .left)
-    (sym (c .before .before .mark-over .ensures) ∙ c .before .if4 .left)
+    let a = c .before .before .before .before .before .before .before .before .before .before .before .args in
+    let wrong = sym (c .before .stop-wrong .ensures) ∙ c .if5 .taken in
+    sym (past-counts (a .profile .now) (a .indexes .now) (a .marks .now) (a .nodes .now) _ (c .before .before .u16-at .ensures) (c .before .before .before .before .before .before .if1 .left) (c .before .before .before .before .before .if2 .left) (c .before .before .before .before .if3 .left) (c .before .before .before .if4 .left) ∙ ap (λ (b : Bool). b || firstPinned (a .marks .now)) wrong)
+
+shared-slice-read-result : tie.Need-shared-slice-read-result
+shared-slice-read-result c = search needs
+
+returns-6 : tie.Need-returns-6
+returns-6 c =
+    let a = c .before .before .before .before .before .before .before .before .before .before .before .before .args in
+    let right = sym (c .before .before .stop-wrong .ensures) ∙ c .before .if5 .left in
+    sym (past-counts (a .profile .now) (a .indexes .now) (a .marks .now) (a .nodes .now) _ (c .before .before .before .u16-at .ensures) (c .before .before .before .before .before .before .before .if1 .left) (c .before .before .before .before .before .before .if2 .left) (c .before .before .before .before .before .if3 .left) (c .before .before .before .before .if4 .left) ∙ ap (λ (b : Bool). b || firstPinned (a .marks .now)) right ∙ sym (first (a .marks .now) (λ e. c .before .before .before .before .before .before .before .if1 .left (sym (c .before .before .before .before .before .if3 .left) ∙ e))))
 
 pub unwritable-spec : {M : Type 1} → statement M
 unwritable-spec =
     tie.close
     (tie.spec
-    counts-wrong-requires
     returns
-    u16-at-requires
-    index-over-requires
     returns-2
-    twice-requires
     returns-3
-    mark-over-requires
     returns-4
-    first-pinned-requires
-    returns-5)
+    u16-at-requires
+    stop-wrong-requires
+    returns-5
+    shared-slice-read-result
+    returns-6)

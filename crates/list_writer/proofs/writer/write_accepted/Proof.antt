@@ -24,16 +24,10 @@ unwritable-requires c κs =
     let header = (accepted version1 (now (c .before .before .before .before .before .args .profile)) (c .before .before .before .before .before .pre)) .hasHeader in
     omega arith
 
-refused-requires : tie.Need-refused-requires
-refused-requires c κs = search needs
-
 returns : tie.Need-returns
 returns c =
-    let a = c .before .before .before .before .before .before .before .before .args in
-    refused-sequence (now (a .profile)) (now (a .domains)) (now (a .pinned)) (now (a .pins)) (now (a .out)) _
-    (c .before .before .before .before .before .before .before .before .pre)
-    (sym (c .before .before .unwritable .ensures) ∙ c .before .if1 .taken)
-    (c .refused .ensures)
+    let a = c .before .before .before .before .before .before .before .args in
+    refused-sequence (now (a .profile)) (now (a .domains)) (now (a .pinned)) (now (a .pins)) (now (a .out)) (c .before .before .before .before .before .before .before .pre) (sym (c .before .unwritable .ensures) ∙ c .if1 .taken)
 
 slice-aggregate-put-all : tie.Need-slice-aggregate-put-all
 slice-aggregate-put-all c = search needs
@@ -44,11 +38,11 @@ put-all-requires c κs = (can-write (c .before), refl)
 all-or-none-requires : tie.Need-all-or-none-requires
 all-or-none-requires c κs = search needs
 
-slice-aggregate-copy-start : tie.Need-slice-aggregate-copy-start
-slice-aggregate-copy-start c = search needs
+slice-aggregate-put-bytes : tie.Need-slice-aggregate-put-bytes
+slice-aggregate-put-bytes c = search needs
 
-copy-start-requires : tie.Need-copy-start-requires
-copy-start-requires c κs =
+put-bytes-requires : tie.Need-put-bytes-requires
+put-bytes-requires c κs =
     let a = c .before .before .before .before .before .before .before .before .before .before .before .before .before .args in
     let put = c .before .before .before .before .put-all in
     let count = c .before .before .all-or-none in
@@ -57,29 +51,22 @@ copy-start-requires c κs =
     (put .ensures)
     (count .ensures)
 
-refused-requires-2 : tie.Need-refused-requires-2
-refused-requires-2 c κs = search needs
-
 same-length : tie.Need-same-length
 same-length c = search needs
 
 returns-2 : tie.Need-returns-2
 returns-2 c =
-    let a = c .before .before .before .before .before .before .before .before .before .before .before .before .before .before .before .before .before .before .args in
-    let put = c .before .before .before .before .before .before .before .before .before .put-all in
-    let count = c .before .before .before .before .before .before .before .all-or-none in
-    too-small (now (a .profile)) (now (a .domains)) (now (a .pinned)) (now (a .pins)) (can-write (c .before .before .before .before .before .before .before .before .before .before .before)) (now (a .out)) (put .last .1 .1 .1 .1 .0) (put .result) (count .result)
-    (search needs)
-    (put .ensures)
-    (count .ensures)
+    let a = c .before .before .before .before .before .before .before .before .before .before .before .before .before .before .before .before .before .args in
+    let put = c .before .before .before .before .before .before .before .before .put-all in
+    let count = c .before .before .before .before .before .before .all-or-none in
+    too-small (now (a .profile)) (now (a .domains)) (now (a .pinned)) (now (a .pins)) (can-write (c .before .before .before .before .before .before .before .before .before .before)) (now (a .out)) (put .last .1 .1 .1 .1 .0) (put .result) (count .result) (search needs) (put .ensures) (count .ensures)
     _
-    (c .before .before .before .before .copy-start .ensures)
     _
-    (c .before .if2 .taken)
-    (c .refused2 .ensures)
+    (c .before .before .before .put-bytes .ensures)
+    (c .if2 .taken)
 
-cast-t19 : tie.Need-cast-t19
-cast-t19 c = search needs
+cast-t20 : tie.Need-cast-t20
+cast-t20 c = search needs
 
 same-length-2 : tie.Need-same-length-2
 same-length-2 c = search needs
@@ -89,12 +76,10 @@ returns-3 c =
     let a = c .before .before .before .before .before .before .before .before .before .before .before .before .before .before .before .before .before .args in
     let put = c .before .before .before .before .before .before .before .before .put-all in
     let count = c .before .before .before .before .before .before .all-or-none in
-    all-written (now (a .profile)) (now (a .domains)) (now (a .pinned)) (now (a .pins)) (can-write (c .before .before .before .before .before .before .before .before .before .before)) (now (a .out)) (put .last .1 .1 .1 .1 .0) (put .result) (count .result)
-    (search needs)
-    (put .ensures)
-    (count .ensures)
+    all-written (now (a .profile)) (now (a .domains)) (now (a .pinned)) (now (a .pins)) (can-write (c .before .before .before .before .before .before .before .before .before .before)) (now (a .out)) (put .last .1 .1 .1 .1 .0) (put .result) (count .result) (search needs) (put .ensures) (count .ensures)
     _
-    (c .before .before .before .copy-start .ensures)
+    _
+    (c .before .before .before .put-bytes .ensures)
     (c .if2 .left)
 
 pub write-accepted-spec : {M : Type 1} → statement M
@@ -102,16 +87,14 @@ write-accepted-spec =
     tie.close
     (tie.spec
     unwritable-requires
-    refused-requires
     returns
     slice-aggregate-put-all
     put-all-requires
     all-or-none-requires
-    slice-aggregate-copy-start
-    copy-start-requires
-    refused-requires-2
+    slice-aggregate-put-bytes
+    put-bytes-requires
     same-length
     returns-2
-    cast-t19
+    cast-t20
     same-length-2
     returns-3)
