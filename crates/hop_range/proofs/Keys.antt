@@ -68,8 +68,9 @@ abbrev pub KeyFrom : Hop → ℕ → ℕ → Type 0
 KeyFrom h key width = (key ≤ keyOf h) × (keyOf h < key + width)
 
 -- of the pair of domains
-pub pair-told : (d e key : ℕ) (h : Hop) → Parts h → e < 65536 → key ≡ findKey d e 0 → (between d e h ≡ true) ↔ KeyFrom h key 4294967296
-pair-told d e key h p l q = (
+pub pair-told
+    : (d e key width : ℕ) (h : Hop) → Parts h → e < 65536 → key ≡ findKey d e 0 → width ≡ 4294967296 → (between d e h ≡ true) ↔ KeyFrom h key width
+pair-told d e key width h p l q w = (
   λ t. let r = between-both d e h t in omega arith,
   λ k.
       let pair : h .from .0 * 65536 + h .to .0 ≡ d * 65536 + e = omega arith in
@@ -78,7 +79,8 @@ pair-told d e key h p l q = (
 )
 
 -- of the tail, where the pair is known
-pub tail-told : (d e a key : ℕ) (h : Hop) → between d e h ≡ true → key ≡ findKey d e a → (eqb (h .tail .0) a ≡ true) ↔ KeyFrom h key 1
-tail-told d e a key h t q =
+pub tail-told
+    : (d e a key width : ℕ) (h : Hop) → between d e h ≡ true → key ≡ findKey d e a → width ≡ 1 → (eqb (h .tail .0) a ≡ true) ↔ KeyFrom h key width
+tail-told d e a key width h t q w =
     let r = between-both d e h t in
     (λ u. let v = eqb-true (h .tail .0) a u in omega arith, λ k. eq-eqb (h .tail .0) a (omega arith))

@@ -41,8 +41,8 @@ returns c =
     let all = subst (λ (n : ℕ). RangeOf (λ (h : Hop). true) L s 0 n) (sym (c .before .before .hop-count .ensures)) (range-all L s) in
     narrow L s (λ (h : Hop). true) (between d e) _ _ _ _ _ _ all (c .key-range .ensures)
     (λ i t.
-    pair-told d e _ (hopAt L s i) (parts L s (λ (k : ℕ). known .shared-slice-known .given k .fits) i) (omega arith)
-    (omega (arith, c .before .find-key .ensures)))
+    pair-told d e _ _ (hopAt L s i) (parts L s (λ (k : ℕ). known .shared-slice-known .given k .fits) i) (omega arith)
+    (omega (arith, c .before .find-key .ensures)) (omega arith))
 
 pub pair-range-spec : {M : Type 1} → statement M
 pair-range-spec =

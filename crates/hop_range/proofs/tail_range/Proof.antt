@@ -28,7 +28,7 @@ returns c =
     let e = a .to .0 in
     let node = a .tail .0 in
     narrow L s (between d e) (λ (h : Hop). eqb (h .tail .0) node) _ _ _ _ _ _ (at-start .pre .1) (c .key-range .ensures)
-    (λ i t. tail-told d e node _ (hopAt L s i) t (omega (arith, c .before .find-key .ensures)))
+    (λ i t. tail-told d e node _ _ (hopAt L s i) t (omega (arith, c .before .find-key .ensures)) (omega arith))
 
 pub tail-range-spec : {M : Type 1} → statement M
 tail-range-spec = tie.close (tie.spec find-key-requires key-range-requires returns)
