@@ -46,3 +46,4 @@ pub mod Claims
 pub mod Walk
 pub mod Words
 pub mod Different
+pub mod Ranges
