@@ -1,7 +1,6 @@
 -- `records::domain::domain_malformed` meets its contract: the tests are the definition's.
 -- Assumes nothing.
 use borrow.Author.Needs.{needs}
-use mathlib.Core.Path.{refl}
 use Rattle.model.specs.Profile.{domainMalformed}
 use Rattle.records.proofs.domain.domain_malformed.Statement.{statement}
 use Rattle.records.proofs.domain.domain_malformed.Tie as tie
@@ -35,7 +34,6 @@ unfolding domainMalformed
 returns c =
     let fits = c .before .before in
     rw (c .zero-after .ensures, fits .area-length-fits .ensures, fits .before .before .before .before .domain-at .ensures)
-    refl
 
 pub domain-malformed-spec : {M : Type 1} → statement M
 domain-malformed-spec =

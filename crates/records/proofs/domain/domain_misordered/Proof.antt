@@ -1,7 +1,6 @@
 -- `records::domain::domain_misordered` meets its contract: a record that is not the first is compared with the one before it.
 -- Assumes nothing.
 use borrow.Author.Needs.{needs}
-use mathlib.Core.Path.{refl}
 use Rattle.model.specs.Profile.{domainMisordered}
 use Rattle.records.proofs.Neighbours.{domain-after}
 use denote.Ref.{now}
@@ -44,7 +43,6 @@ returns-2 c =
     let reads = c .before .before .before in
     let a = reads .before .before .before .before .before .args in
     rw (domain-after (now (a .s)) (a .i) (reads .before .before .before .if1 .left), reads .domain-at2 .ensures, reads .before .domain-at .ensures, reads .before .before .record-below .ensures)
-    refl
 
 pub domain-misordered-spec : {M : Type 1} → statement M
 domain-misordered-spec =

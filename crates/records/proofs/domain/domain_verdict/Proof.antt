@@ -1,7 +1,6 @@
 -- `records::domain::domain_verdict` meets its contract: the three tests are the definition's.
 -- Assumes nothing.
 use borrow.Author.Needs.{needs}
-use mathlib.Core.Path.{refl}
 use Rattle.model.specs.Profile.{domainVerdict}
 use Rattle.records.proofs.domain.domain_verdict.Statement.{statement}
 use Rattle.records.proofs.domain.domain_verdict.Tie as tie
@@ -33,7 +32,6 @@ returns c =
     let reads = c .before .before in
     let tests = reads .before .before in
     rw (c .first-wrong .ensures, c .before .as-misplaced .ensures, reads .domain-at .ensures, reads .before .class-of .ensures, tests .domain-misordered .ensures, tests .before .domain-malformed .ensures)
-    refl
 
 pub domain-verdict-spec : {M : Type 1} → statement M
 domain-verdict-spec =

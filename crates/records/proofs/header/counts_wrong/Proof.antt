@@ -1,7 +1,6 @@
 -- `records::header::counts_wrong` meets its contract: the tests are the definition's.
 -- Assumes nothing.
 use borrow.Author.Needs.{needs}
-use mathlib.Core.Path.{refl}
 use Rattle.model.specs.Profile.{countsWrong}
 use Rattle.records.proofs.header.counts_wrong.Statement.{statement}
 use Rattle.records.proofs.header.counts_wrong.Tie as tie
@@ -20,7 +19,6 @@ unfolding countsWrong
 returns c =
     let reads = c .before in
     rw (reads .hop-count .ensures, reads .before .domain-count .ensures, reads .before .before .class-of .ensures)
-    refl
 
 pub counts-wrong-spec : {M : Type 1} → statement M
 counts-wrong-spec =

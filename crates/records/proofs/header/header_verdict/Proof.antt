@@ -4,7 +4,7 @@ use borrow.Author.Needs.{needs}
 use Rattle.model.specs.Profile.{headerVerdict}
 use borrow.Author.Tests.{lt-ltb, le-ltb}
 use lib.ListN.{length}
-use mathlib.Core.Path.{refl, sym, _∙_}
+use mathlib.Core.Path.{sym, _∙_}
 use denote.Ref.{now}
 use native.Mathlib.Omega.{arith}
 use Rattle.records.proofs.header.header_verdict.Statement.{statement}
@@ -37,7 +37,6 @@ returns-2 c =
     let s = now (c .before .before .before .before .before .before .args .s) in
     let tests = c .before in
     rw (le-ltb (length s) 12 (omega arith), c .first-wrong .ensures, tests .length-wrong .ensures, tests .before .counts-wrong .ensures, tests .before .before .header-wrong .ensures)
-    refl
 
 pub header-verdict-spec : {M : Type 1} → statement M
 header-verdict-spec =

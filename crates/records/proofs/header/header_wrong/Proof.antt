@@ -1,7 +1,6 @@
 -- `records::header::header_wrong` meets its contract: the mark is the high part of a word, and the tests are the definition's.
 -- Assumes nothing.
 use borrow.Author.Needs.{needs}
-use mathlib.Core.Path.{refl}
 use Rattle.records.proofs.Fields.{high-field}
 use Rattle.model.specs.Profile.{headerWrong}
 use denote.Ref.{now}
@@ -23,7 +22,6 @@ unfolding headerWrong
 returns c =
     let known = c .before .before .before in
     rw (c .u16-at2 .ensures, c .before .u16-at .ensures, c .before .before .u32-at .ensures, high-field 3 1 (now (known .before .args .s)) 0 (λ (k : ℕ). known .shared-slice-known .given k .fits))
-    refl
 
 pub header-wrong-spec : {M : Type 1} → statement M
 header-wrong-spec = tie.close (tie.spec u32-at-requires u16-at-requires u16-at-requires-2 returns)

@@ -1,7 +1,6 @@
 -- `records::header::length_wrong` meets its contract: a short record's size times a u16 fits.
 -- Assumes nothing.
 use borrow.Author.Needs.{needs}
-use mathlib.Core.Path.{refl}
 use Rattle.model.specs.Profile.{lengthWrong}
 use Prim.Native.Nat.{_≤_}
 use native.Mathlib.Nat.{mul-le-mul}
@@ -39,7 +38,7 @@ add-result-2 c =
 
 returns : tie.Need-returns
 unfolding lengthWrong
-returns c = rw (c .before .hop-count .ensures, c .before .before .domain-count .ensures) refl
+returns c = rw (c .before .hop-count .ensures, c .before .before .domain-count .ensures)
 
 pub length-wrong-spec : {M : Type 1} → statement M
 length-wrong-spec =

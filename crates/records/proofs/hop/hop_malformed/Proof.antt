@@ -1,7 +1,6 @@
 -- `records::hop::hop_malformed` meets its contract: the two domains are the parts of a word, and the tests are the definition's.
 -- Assumes nothing.
 use borrow.Author.Needs.{needs}
-use mathlib.Core.Path.{refl}
 use Rattle.model.specs.Profile.{hopAt, hopMalformed}
 use Rattle.laws.proofs.BigEndian.{Bytes}
 use Rattle.records.proofs.Fields.{high-field, low-field}
@@ -43,7 +42,6 @@ returns c =
     let reads = c .before in
     let starts = reads .before .before .before in
     rw (reads .u32-at3 .ensures, reads .before .u32-at2 .ensures, reads .before .before .u32-at .ensures, high-field 2 2 s at bytes, low-field 2 2 s at bytes, starts .hop-start .ensures, starts .before .domain-count .ensures)
-    refl
 
 pub hop-malformed-spec : {M : Type 1} → statement M
 hop-malformed-spec =

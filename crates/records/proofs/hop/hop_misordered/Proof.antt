@@ -1,7 +1,6 @@
 -- `records::hop::hop_misordered` meets its contract: a record that is not the first is compared with the one before it.
 -- Assumes nothing.
 use borrow.Author.Needs.{needs}
-use mathlib.Core.Path.{refl}
 use Rattle.records.proofs.Neighbours.{hop-after}
 use Rattle.records.proofs.Fields.{starts-before, within-before}
 use Rattle.records.specs.Layout.{layoutOf}
@@ -35,7 +34,6 @@ returns-2 : tie.Need-returns-2
 returns-2 c =
     let a = c .before .before .before .before .before .args in
     rw (hop-after (layoutOf (a .layout)) (now (a .s)) (a .i) (c .before .before .before .if1 .left), c .record-below .ensures, c .before .hop-start2 .ensures, c .before .before .hop-start .ensures)
-    refl
 
 pub hop-misordered-spec : {M : Type 1} → statement M
 hop-misordered-spec =

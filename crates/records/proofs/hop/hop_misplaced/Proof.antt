@@ -1,7 +1,6 @@
 -- `records::hop::hop_misplaced` meets its contract: the two nodes are read where the definition reads them.
 -- Assumes nothing.
 use borrow.Author.Needs.{needs}
-use mathlib.Core.Path.{refl}
 use Rattle.model.specs.Profile.{hopAt}
 use Rattle.records.proofs.hop.hop_misplaced.Statement.{statement}
 use Rattle.records.proofs.hop.hop_misplaced.Tie as tie
@@ -35,7 +34,6 @@ unfolding hopAt
 returns c =
     let starts = c .before .before .before .before in
     rw (c .address-misplaced2 .ensures, c .before .address-misplaced .ensures, c .before .before .u32-at2 .ensures, c .before .before .before .u32-at .ensures, starts .hop-start .ensures, starts .before .class-of .ensures)
-    refl
 
 pub hop-misplaced-spec : {M : Type 1} → statement M
 hop-misplaced-spec =

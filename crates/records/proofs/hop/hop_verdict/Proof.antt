@@ -1,7 +1,7 @@
 -- `records::hop::hop_verdict` meets its contract: the three tests are the definition's.
 -- Assumes nothing.
 use borrow.Author.Needs.{needs}
-use mathlib.Core.Path.{refl}
+use mathlib.Core.Path.{sym}
 use Rattle.model.specs.Profile.{hopVerdict}
 use Rattle.records.proofs.hop.hop_verdict.Statement.{statement}
 use Rattle.records.proofs.hop.hop_verdict.Tie as tie
@@ -34,8 +34,7 @@ returns : tie.Need-returns
 unfolding hopVerdict
 returns c =
     let tests = c .before .before in
-    rw (c .first-wrong .ensures, c .before .domain-count .ensures, tests .hop-misplaced .ensures, tests .before .hop-misordered .ensures, tests .before .before .hop-malformed .ensures)
-    refl
+    rw (c .first-wrong .ensures, tests .hop-misplaced .ensures, tests .before .hop-misordered .ensures, tests .before .before .hop-malformed .ensures, sym (c .before .domain-count .ensures))
 
 pub hop-verdict-spec : {M : Type 1} → statement M
 hop-verdict-spec =
