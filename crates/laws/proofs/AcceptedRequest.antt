@@ -1,43 +1,29 @@
 -- What acceptance says of a request: every check before the meaning of its include list passes, that meaning is the sequence, and a sequence has 1 to 16 domains.
--- By the cases of a reading, one subobject after the other.
-use mathlib.Core.Path.{_≡_, refl, sym, subst}
-use mathlib.Core.Bool.{Bool, true, false}
-use mathlib.Core.List.{List, [], _∷_}
-use mathlib.Core.Option.{Option, none, some}
-use Prim.Native.Nat.{ℕ, _≤_}
+-- By cases on the verdict, and by what a reading keeps.
+use mathlib.Core.Path.{_≡_, refl}
+use mathlib.Core.Bool.{true, not, _&&_}
+use mathlib.Core.List.{List}
+use Prim.Native.Nat.{ℕ, _≤_, _<_}
 use native.Mathlib.Omega.{arith}
 use lib.ListN.{length, length-append}
-use lib.Dec.{eqb, leb}
-use borrow.Author.Tests.{leb-false}
+use lib.Dec.{leb, ltb}
+use borrow.Author.Tests.{leb-false, ltb-false, not-false}
 use Rattle.model.specs.declared.Domain.{Domain}
-use Rattle.model.specs.declared.Refusal.{Refusal}
+use Rattle.model.specs.declared.ListKind.the-variants.{Include, Exclude}
 use Rattle.model.specs.declared.Verdict.{Verdict}
 use Rattle.model.specs.declared.Verdict.the-variants.{Pass, Refuse}
-use Rattle.model.specs.Lists.{among}
-use Rattle.model.specs.Verdict.{_andThen_}
-use Rattle.model.specs.Profile.{profileVerdict, domains}
-use Rattle.model.specs.Subobject.{Named, prefix, system, area, Subobject, subobjects}
-use Rattle.model.specs.Sequence.{Stop, Waiting, State, Reading, refused, good, continue, added, enterIf, domainsOf, enter, name, withSystem, wait, areaNext, ofSystem, ofArea, readSystem, readNamed, readOne, finish, readAll, startIn, meaning}
-use Rattle.model.specs.Request.{Request, layoutOf, provided, requestVerdict, sequenceOf, Accepted}
-use Rattle.laws.proofs.Turns.{andThen-pass}
+use Rattle.model.specs.Profile.{domainCount, profileVerdict, domains}
+use Rattle.model.specs.Subobject.{formVerdict}
+use Rattle.model.specs.Floats.{inRange}
+use Rattle.model.specs.Sequence.{Stop, Reading, good, meaning}
+use Rattle.model.specs.Request.{Request, layoutOf, limitsVerdict, provided, requestVerdict, sequenceOf, Accepted}
+use Rattle.laws.proofs.Tests.{and-false}
+use Rattle.laws.proofs.Turns.{refuseIf-pass, andThen-refuseIf, andThen-pass}
+use Rattle.laws.proofs.ReadingKeeps.{refused-good, meaning-keeps}
 
--- ---- readings that are good
-
-module _ {A : Type 0} where
-  refused-good : {P : Type 0} (r : Refusal) (x : A) → refused r ≡ good x → P
-  refused-good r x e = let z : _≡_ {A = ℕ} 0 1 = cc in absurd (omega arith)
-
-  good-same : (x y : A) → good x ≡ good y → x ≡ y
-  good-same x y e = cc
-
-  provided-good : (v : Verdict) (reading : Reading A) (x : A) → provided v reading ≡ good x → (v ≡ Pass) × (reading ≡ good x)
-  provided-good Pass reading x e = (refl, e)
-  provided-good (Refuse r) reading x e = refused-good r x e
-
-module _ {A B : Type 0} where
-  continue-good : (reading : Reading A) (f : A → Reading B) (y : B) → continue reading f ≡ good y → (x : A) × (reading ≡ good x) × (f x ≡ good y)
-  continue-good (refused r) f y e = refused-good r y e
-  continue-good (good x) f y e = (x, refl, e)
+provided-good : {A : Type 0} (v : Verdict) (reading : Reading A) (x : A) → provided v reading ≡ good x → (v ≡ Pass) × (reading ≡ good x)
+provided-good Pass reading x e = (refl, e)
+provided-good (Refuse r) reading x e = refused-good r x e
 
 pub accepted-verdict : (r : Request) (sequence : List Stop) → Accepted r sequence → requestVerdict r ≡ Pass
 unfolding sequenceOf
@@ -47,71 +33,47 @@ pub accepted-meaning : (r : Request) (sequence : List Stop) → Accepted r seque
 unfolding sequenceOf
 accepted-meaning r sequence e = (provided-good (requestVerdict r) (meaning (domains (r .profile)) (r .ingress) (r .include)) sequence e) .1
 
-first-passes : (a b : Verdict) → a andThen b ≡ Pass → a ≡ Pass
-first-passes a b e = (andThen-pass a b .0 e) .0
+-- what each check before the meaning says
+pub record PassedRequest (r : Request) : Type 0 where
+  pub profile : profileVerdict (layoutOf r) (r .profile) ≡ Pass
+  pub ingress : r .ingress < domainCount (r .profile)
+  pub bandwidth : inRange (r .limits .bandwidth) ≡ true
+  pub bound : r .limits .bounded ≡ true → inRange (r .limits .bound) ≡ true
+  pub include-size : length (r .include) ≤ 1024
+  pub exclude-size : length (r .exclude) ≤ 1024
+  pub include-form : formVerdict Include (r .include) ≡ Pass
+  pub exclude-form : formVerdict Exclude (r .exclude) ≡ Pass
+
+pub passed-request : (r : Request) → requestVerdict r ≡ Pass → PassedRequest r
+unfolding requestVerdict
+passed-request r e =
+    let l = r .limits in
+    let six = andThen-pass _ (formVerdict Exclude (r .exclude)) .0 e in
+    let five = andThen-pass _ (formVerdict Include (r .include)) .0 (six .0) in
+    let four = andThen-refuseIf _ (ltb 1024 (length (r .exclude))) 22 1 .0 (five .0) in
+    let three = andThen-refuseIf _ (ltb 1024 (length (r .include))) 22 0 .0 (four .0) in
+    let two = andThen-pass _ (limitsVerdict l) .0 (three .0) in
+    let floats = andThen-refuseIf _ (l .bounded && not (inRange (l .bound))) 21 1 .0 (two .1) in
+    let one = andThen-refuseIf (profileVerdict (layoutOf r) (r .profile)) (leb (domainCount (r .profile)) (r .ingress)) 20 0 .0 (two .0) in
+    record {
+      profile = one .0;
+      ingress = leb-false _ _ (one .1);
+      bandwidth = not-false _ (refuseIf-pass (not (inRange (l .bandwidth))) 21 0 .0 (floats .0));
+      bound = λ counts. not-false _ (and-false (l .bounded) (not (inRange (l .bound))) (floats .1) counts);
+      include-size = ltb-false _ _ (three .1);
+      exclude-size = ltb-false _ _ (four .1);
+      include-form = five .1;
+      exclude-form = six .1;
+    }
 
 pub accepted-profile : (r : Request) (sequence : List Stop) → Accepted r sequence → profileVerdict (layoutOf r) (r .profile) ≡ Pass
-unfolding requestVerdict
-accepted-profile r sequence e =
-    first-passes _ _ (first-passes _ _ (first-passes _ _ (first-passes _ _ (first-passes _ _ (first-passes _ _ (accepted-verdict r sequence e))))))
+accepted-profile r sequence e = passed-request r (accepted-verdict r sequence e) .profile
 
 -- ---- a sequence has 1 to 16 domains
 
-abbrev Fits : List Stop → Type 0
-Fits sequence = (1 ≤ length sequence) × (length sequence ≤ 16)
-
--- a reading that is good keeps the number of domains in range
-abbrev Keeps : Reading State → Type 0
-Keeps reading = (st : State) → reading ≡ good st → Fits (st .sequence)
-
-module _ (st : State) (f : Fits (st .sequence)) where
-  keeps-same : (st′ : State) → st′ .sequence ≡ st .sequence → Keeps (good st′)
-  keeps-same st′ same st″ e = subst (λ (x : State). Fits (x .sequence)) (good-same st′ st″ e) (subst Fits (sym same) f)
-
-  keeps-added : (d : ℕ) → leb 16 (length (st .sequence)) ≡ false → Keeps (good (added st d))
-  keeps-added d full st′ e =
-      let l = leb-false 16 (length (st .sequence)) full in
-      subst (λ (x : State). Fits (x .sequence)) (good-same (added st d) st′ e) (simp length-append (omega arith))
-
-  keeps-enterIf : (same back full : Bool) (at d : ℕ) → leb 16 (length (st .sequence)) ≡ full → Keeps (enterIf same back full at st d)
-  keeps-enterIf true back full at d e = keeps-same st refl
-  keeps-enterIf false true full at d e = λ st′ g. refused-good _ st′ g
-  keeps-enterIf false false true at d e = λ st′ g. refused-good _ st′ g
-  keeps-enterIf false false false at d e = keeps-added d e
-
-  keeps-name : (at : ℕ) (ds : List ℕ) → Keeps (name at st ds)
-  unfolding name enter
-  keeps-name at [] = λ st′ g. refused-good _ st′ g
-  keeps-name at (d ∷ []) = keeps-enterIf (eqb d (st .here)) (among d (domainsOf (st .sequence))) (leb 16 (length (st .sequence))) at d refl
-  keeps-name at (d ∷ e ∷ rest) = λ st′ g. refused-good _ st′ g
-
-  keeps-wait : (at node : ℕ) (w : Option Waiting) → Keeps (wait at st node w)
-  keeps-wait at node none = keeps-same _ refl
-  keeps-wait at node (some w) = λ st′ g. refused-good _ st′ g
-
-keeps-system : (st : State) → Fits (st .sequence) → (ds : List Domain) (at n : ℕ) (next : Bool) → Keeps (readSystem ds at st n next)
-keeps-system st f ds at n true = keeps-same st f (withSystem st n) refl
-keeps-system st f ds at n false = keeps-name (withSystem st n) f at (ofSystem ds n)
-
-keeps-named : (st : State) → Fits (st .sequence) → (ds : List Domain) (at : ℕ) (next : Bool) (x : Named) → Keeps (readNamed ds at st next x)
-keeps-named st f ds at next (prefix a n) = keeps-wait st f at a (st .waiting)
-keeps-named st f ds at next (system n) = keeps-system st f ds at n next
-keeps-named st f ds at next (area a) = keeps-name st f at (ofArea ds (st .asn) a)
-
-keeps-finish : (st : State) → Fits (st .sequence) → (w : Option Waiting) (sequence : List Stop) → finish st w ≡ good sequence → Fits sequence
-keeps-finish st f none sequence e = subst Fits (good-same (st .sequence) sequence e) f
-keeps-finish st f (some w) sequence e = refused-good _ sequence e
-
-readAll-fits : (ds : List Domain) (subs : List Subobject) (st : State) → Fits (st .sequence) → (sequence : List Stop) → readAll ds subs st ≡ good sequence → Fits sequence
-unfolding readAll readOne
-readAll-fits ds [] st f sequence e = keeps-finish st f (st .waiting) sequence e
-readAll-fits ds (s ∷ rest) st f sequence e =
-    let c = continue-good (readOne ds st s (areaNext rest)) (λ (next : State). readAll ds rest next) sequence e in
-    readAll-fits ds rest (c .0) (keeps-named st f ds (s .offset) (areaNext rest) (s .names) (c .0) (c .1)) sequence (c .2)
-
 pub meaning-fits : (ds : List Domain) (ingress : ℕ) (list : List ℕ) (sequence : List Stop) → meaning ds ingress list ≡ good sequence → (1 ≤ length sequence) × (length sequence ≤ 16)
-unfolding meaning
-meaning-fits ds ingress list sequence e = readAll-fits ds (subobjects list) (startIn ds ingress) (omega arith) sequence e
+meaning-fits ds ingress list sequence e =
+    meaning-keeps ds (λ (s : List Stop). (1 ≤ length s) × (length s ≤ 16)) (λ s d pin h l new few. simp length-append (omega arith)) ingress list sequence (omega arith) e
 
 pub accepted-length : (r : Request) (sequence : List Stop) → Accepted r sequence → (1 ≤ length sequence) × (length sequence ≤ 16)
 accepted-length r sequence e = meaning-fits (domains (r .profile)) (r .ingress) (r .include) sequence (accepted-meaning r sequence e)

@@ -21,6 +21,8 @@ pub mod SuffixesAscend
 pub mod SuffixTotals
 pub mod Allowed
 pub mod PathsAreThePaths
+pub mod ReadingKeeps
+pub mod SequenceDomains
 pub mod AcceptedRequest
 pub mod AcceptedPaths
 pub mod Least

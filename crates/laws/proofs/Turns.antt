@@ -28,6 +28,13 @@ pub andThen-pass : (a b : Verdict) → (a andThen b ≡ Pass) ↔ ((a ≡ Pass) 
 andThen-pass Pass b = (λ e. (refl, e), λ e. e .1)
 andThen-pass (Refuse r) b = (λ e. absurd (refuse-not-pass r e), λ e. e .0)
 
+-- the first check passes and leaves the second, or gives the answer
+pub passed-first : (a b : Verdict) → a ≡ Pass → a andThen b ≡ b
+passed-first a b e = ap (λ (v : Verdict). v andThen b) e
+
+pub refused-first : (a b : Verdict) (r : Refusal) → a ≡ Refuse r → a andThen b ≡ Refuse r
+refused-first a b r e = ap (λ (v : Verdict). v andThen b) e
+
 -- a check and then a refusal by a test
 pub andThen-refuseIf : (v : Verdict) (b : Bool) (n p : ℕ) → (v andThen refuseIf b n p ≡ Pass) ↔ ((v ≡ Pass) × (b ≡ false))
 andThen-refuseIf Pass b n p = (λ e. (refl, refuseIf-pass b n p .0 e), λ e. refuseIf-pass b n p .1 (e .1))
