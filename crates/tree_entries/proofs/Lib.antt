@@ -1,0 +1,4 @@
+pub mod Filled
+pub mod Search
+pub mod Steps
+pub mod FillCall

@@ -1,0 +1,53 @@
+-- The entries of a tree that is worked out as a list of numbers for each field, the search among entries, and what a call that is lent a slice of
+-- entries answers and writes, by its capacity. Document 01, "Numbers the calculator gives": level, address, reachable and cost.
+use Prim.Native.Nat.{ℕ, suc}
+use mathlib.Core.Bool.{Bool, true, false, _&&_}
+use mathlib.Core.List.{List, [], _∷_, map}
+use lib.ListN.{getD}
+use lib.Dec.{eqb, ltb}
+use Rattle.model.specs.declared.TreeEntry.{TreeEntry}
+use Rattle.model.specs.declared.TreeAnswer.{TreeAnswer}
+use Rattle.model.specs.declared.TreeAnswer.the-variants.{Built, Refused}
+use Rattle.model.specs.declared.Verdict.{Verdict}
+use Rattle.model.specs.declared.Verdict.the-variants.{Pass, Refuse}
+use Rattle.model.specs.Lists.{countFrom}
+use Rattle.tree_entries.specs.declared.Found.{Found}
+use Rattle.tree_entries.specs.declared.Found.the-variants.{At, Nothing}
+
+-- entry i: an entry is reachable where its mark is 1
+abbrev pub entryAt : List ℕ → List ℕ → List ℕ → List ℕ → ℕ → TreeEntry
+entryAt levels addresses marks costs i = record {
+  level = getD levels i 0;
+  address = record { 0 = getD addresses i 0 };
+  reachable = eqb (getD marks i 0) 1;
+  cost = getD costs i 0;
+}
+
+-- the first n entries
+unfoldable pub entriesOf : ℕ → List ℕ → List ℕ → List ℕ → List ℕ → List TreeEntry
+entriesOf n levels addresses marks costs = map (entryAt levels addresses marks costs) (countFrom 0 n)
+
+abbrev pub isEntry : ℕ → ℕ → TreeEntry → Bool
+isEntry level address e = eqb (e .level) level && eqb (e .address .0) address
+
+abbrev pub atOrFurther : Bool → ℕ → Found → Found
+atOrFurther true i further = At i
+atOrFurther false i further = further
+
+-- the first entry of this level and address, in a list whose first element stands at place i
+unfoldable pub findFrom : ℕ → ℕ → ℕ → List TreeEntry → Found
+findFrom level address i [] = Nothing
+findFrom level address i (e ∷ es) = atOrFurther (isEntry level address e) i (findFrom level address (suc i) es)
+
+-- place i of n, or none where i is n
+abbrev pub foundBelow : ℕ → ℕ → Found
+foundBelow i n = atOrFurther (ltb i n) i Nothing
+
+-- what is answered for a tree of n entries and this tally, and what is written of it, where its capacity is judged so
+abbrev pub answerOf : Verdict → ℕ → ℕ → TreeAnswer
+answerOf (Refuse r) n tally = Refused r
+answerOf Pass n tally = Built n tally
+
+abbrev pub writtenOf : Verdict → List TreeEntry → List TreeEntry
+writtenOf (Refuse r) entries = []
+writtenOf Pass entries = entries

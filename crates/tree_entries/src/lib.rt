@@ -1,0 +1,112 @@
+// The backward tree in a lent slice of entries: filled from the numbers that were worked out, and searched. (Document 01:
+// "in a lent list of such records".) The functions over the lent slice are proved by a walk of their MIR, by hand; what they
+// call is covered.
+use model::NodeAddress;
+use model::Refusal;
+use model::TreeAnswer;
+use model::TreeEntry;
+ghost use mathlib.Core.Path.{_≡_};
+ghost use Prim.Native.Nat.{_<_, _≤_};
+ghost use lib.ListN.{length};
+ghost use Rattle.model.specs.Lists.{over};
+ghost use Rattle.model.specs.Calls.{roomVerdict};
+ghost use Rattle.tree_entries.specs.Entries.{entryAt, entriesOf, isEntry, findFrom, foundBelow, answerOf, writtenOf};
+
+// A tree as it is worked out: for each field of its entries the numbers in their order, of which the first `count` count.
+pub struct TreeTable {
+    pub level: [u32; 241],
+    pub address: [u32; 241],
+    pub reachable: [u8; 241],
+    pub cost: [u32; 241],
+    pub count: usize,
+    pub tally: u32,
+}
+
+// The place of an entry in the slice.
+pub enum Found {
+    At(usize),
+    Nothing,
+}
+
+fn entry_of(tree: TreeTable, i: usize) -> TreeEntry
+    requires { ⌜ i < 241 ⌝ }
+    ensures { λ r. ⌜ r ≡ entryAt (tree .level) (tree .address) (tree .reachable) (tree .cost) i ⌝ }
+{
+    TreeEntry {
+        level: tree.level[i],
+        address: NodeAddress(tree.address[i]),
+        reachable: tree.reachable[i] == 1,
+        cost: tree.cost[i],
+    }
+}
+
+// The first `n` entries of the tree over the start of the lent slice.
+pub fn fill(entries: &mut [TreeEntry], tree: TreeTable, n: usize)
+    requires { ⌜ (n ≤ 241) × (n ≤ length (now entries)) ⌝ }
+    ensures { λ _. ⌜ now (entries .exit) ≡ over (entriesOf n (tree .level) (tree .address) (tree .reachable) (tree .cost)) (now (entries .entry)) ⌝ }
+{
+    let mut i = 0;
+    while i < n {
+        entries[i] = entry_of(tree, i);
+        i += 1;
+    }
+}
+
+fn is_entry(e: TreeEntry, level: u32, address: NodeAddress) -> bool
+    ensures { λ r. ⌜ r ≡ isEntry level (address .0) e ⌝ }
+{
+    (e.level == level) & (e.address.0 == address.0)
+}
+
+fn found_at(i: usize, n: usize) -> Found
+    ensures { λ r. ⌜ r ≡ foundBelow i n ⌝ }
+{
+    if i < n { Found::At(i) } else { Found::Nothing }
+}
+
+// The first entry of this level and address.
+pub fn find(entries: &[TreeEntry], level: u32, address: NodeAddress) -> Found
+    ensures { λ r. ⌜ r ≡ findFrom level (address .0) 0 (now (entries .entry)) ⌝ }
+{
+    let mut at = 0;
+    while at < entries.len() {
+        if is_entry(entries[at], level, address) {
+            break;
+        }
+        at += 1;
+    }
+    found_at(at, entries.len())
+}
+
+fn too_small() -> TreeAnswer
+    ensures { λ r. ⌜ r ≡ TreeAnswer.Refused (record { number = 34; place = 0 }) ⌝ }
+{
+    TreeAnswer::Refused(Refusal {
+        number: 34,
+        place: 0,
+    })
+}
+
+fn built(tree: TreeTable) -> TreeAnswer
+    requires { ⌜ tree .count ≤ 241 ⌝ }
+    ensures { λ r. ⌜ r ≡ TreeAnswer.Built (tree .count) (tree .tally) ⌝ }
+{
+    TreeAnswer::Built {
+        entries: tree.count as u32,
+        tally: tree.tally,
+    }
+}
+
+// The whole tree into the lent slice, where it has the capacity; else nothing, and the refusal.
+pub fn put(entries: &mut [TreeEntry], tree: TreeTable) -> TreeAnswer
+    requires { ⌜ tree .count ≤ 241 ⌝ }
+    ensures { λ r. ⌜ (r ≡ answerOf (roomVerdict (tree .count) (length (now (entries .entry)))) (tree .count) (tree .tally))
+        × (now (entries .exit) ≡ over (writtenOf (roomVerdict (tree .count) (length (now (entries .entry)))) (entriesOf (tree .count) (tree .level) (tree .address) (tree .reachable) (tree .cost))) (now (entries .entry))) ⌝ }
+{
+    let n = tree.count;
+    if entries.len() < n {
+        return too_small();
+    }
+    fill(entries, tree, n);
+    built(tree)
+}
