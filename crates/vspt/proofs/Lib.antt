@@ -1,0 +1,10 @@
+-- What the proofs of several functions share, a module to a subject.
+pub mod Codes
+pub mod Places
+pub mod Hops
+pub mod Entries
+pub mod Known
+pub mod LevelIs
+pub mod Sequences
+pub mod Filled
+pub mod Filling

@@ -1,0 +1,4 @@
+pub mod Reaches
+pub mod Step
+pub mod Leg
+pub mod Tree

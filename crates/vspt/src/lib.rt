@@ -1,0 +1,181 @@
+// The backward tree (RFC 5441's virtual shortest path tree): how each entry reaches the destination, from the last domain to the first.
+use crate::reach::UNREACHABLE;
+use crate::step::Leg;
+use crate::step::fill_level;
+use exclusion::excludes_domain;
+use exclusion::excludes_node;
+use hop_range::HopRange;
+use levels::lay_out;
+use model::DomainIndex;
+use model::NodeAddress;
+use records::domain::domain_at;
+use records::layout::Layout;
+use request::Query;
+ghost use mathlib.Core.Path.{_≡_};
+ghost use mathlib.Core.Bool.{not};
+ghost use mathlib.Core.List.{List};
+ghost use Prim.Native.Nat.{ℕ, suc, _+_, _<_, _≤_};
+ghost use lib.ListN.{length, getD};
+ghost use Rattle.model.specs.declared.ListKind.the-variants.{Exclude};
+ghost use Rattle.model.specs.declared.Verdict.the-variants.{Pass};
+ghost use Rattle.model.specs.Exclusion.{inForce, excludedNode};
+ghost use Rattle.model.specs.Subobject.{formVerdict, subobjects};
+ghost use Rattle.records.specs.Layout.{layoutOf, Sound};
+ghost use Rattle.levels.specs.Levels.{Room, LaidOut};
+ghost use Rattle.request.specs.Query.{searchFor, Ready};
+ghost use Rattle.vspt.specs.Reaches.{codeIf};
+ghost use Rattle.vspt.specs.Leg.{nextPlace, LegFor};
+ghost use Rattle.vspt.specs.Tree.{filledFrom, LaidOutFor, WorkedOut};
+
+pub mod reach;
+pub mod step;
+
+// Behind the last domain: the destination reaches itself at no cost, unless it is excluded.
+fn arrival(exclude: &[u8], destination: NodeAddress) -> u32
+    requires { ⌜ formVerdict Exclude (now exclude) ≡ Pass ⌝ }
+    ensures { λ r. ⌜ r ≡ codeIf (not (excludedNode (inForce (subobjects (now (exclude .entry)))) (destination .0))) 0 ⌝ }
+{
+    if excludes_node(exclude, destination) {
+        return UNREACHABLE;
+    }
+    0
+}
+
+// The domain after place i of the sequence: the next one, or, at the last, the same.
+fn next_domain(domains: [DomainIndex; 16], count: usize, i: usize) -> DomainIndex
+    requires { ⌜ (length domains ≡ 16) × (count ≤ 16) × (i < count) ⌝ }
+    ensures { λ r. ⌜ r ≡ getD domains (nextPlace count i) (record { 0 = 0 }) ⌝ }
+{
+    let next = i + 1;
+    if next < count {
+        return domains[next];
+    }
+    domains[i]
+}
+
+// The leg from place i of the sequence. Whether its domain is excluded is asked here, once for all its entries.
+fn leg_at(
+    s: &[u8],
+    layout: Layout,
+    exclude: &[u8],
+    q: Query,
+    i: usize,
+    starts: &[usize; 18],
+    firsts: &[usize; 16],
+    lasts: &[usize; 16],
+) -> Leg
+    requires { ⌜ Ready (layoutOf layout) (now s) (now exclude) q × (i < q .count) ⌝ }
+    ensures { λ r. ⌜ ((addresses : List ℕ) (tally : ℕ) → LaidOut (searchFor (layoutOf layout) (now (s .entry)) (now (exclude .entry)) q) (layoutOf layout) (now (s .entry)) addresses (now (starts .entry)) (now (firsts .entry)) (now (lasts .entry)) tally → LegFor (layoutOf layout) (now (s .entry)) (searchFor (layoutOf layout) (now (s .entry)) (now (exclude .entry)) q) i r) ⌝ }
+{
+    let domains = q.domains;
+    let pinned = q.pinned;
+    let pins = q.pins;
+    let from = domains[i];
+    let to = next_domain(domains, q.count, i);
+    let d = domain_at(s, from.0 as usize);
+    let excluded = excludes_domain(exclude, d);
+    Leg {
+        from,
+        to,
+        hops: HopRange {
+            first: firsts[i],
+            last: lasts[i],
+        },
+        excluded,
+        pinned: pinned[i],
+        pin: pins[i],
+        start: starts[i],
+        next: starts[i + 1],
+        end: starts[i + 2],
+    }
+}
+
+// The reaches of the places from i on, `left` domains and the end behind them: the last first, each from the one after it.
+fn fill_from(
+    s: &[u8],
+    layout: Layout,
+    exclude: &[u8],
+    q: Query,
+    i: usize,
+    left: usize,
+    addresses: &[u32; 242],
+    starts: &[usize; 18],
+    firsts: &[usize; 16],
+    lasts: &[usize; 16],
+    reaches: &mut [u32],
+)
+    requires { ⌜ Sound (layoutOf layout) × (layoutOf layout .mostCost ≤ 65535) × Ready (layoutOf layout) (now s) (now exclude) q × (i + left ≡ q .count) ⌝ }
+    requires { ⌜ LaidOutFor (layoutOf layout) (now s) (now exclude) q (now addresses) (now starts) (now firsts) (now lasts) × (length (now reaches) ≡ 242) ⌝ }
+    ensures { λ _. ⌜ now (reaches .exit) ≡ filledFrom (searchFor (layoutOf layout) (now (s .entry)) (now (exclude .entry)) q) i (suc left) (now (reaches .entry)) ⌝ }
+{
+    if left == 0 {
+        let at = starts[i];
+        let destination = q.destination;
+        reaches[at] = arrival(exclude, destination);
+        return;
+    }
+    fill_from(
+        s,
+        layout,
+        exclude,
+        q,
+        i + 1,
+        left - 1,
+        addresses,
+        starts,
+        firsts,
+        lasts,
+        reaches,
+    );
+    let leg = leg_at(s, layout, exclude, q, i, starts, firsts, lasts);
+    let asked = q.limits.bandwidth;
+    fill_level(s, layout, exclude, leg, asked, addresses, reaches);
+}
+
+// The whole tree of a query: its places' entries, and how each reaches the destination. The answer is how many hop records the legs have (the tally).
+pub fn work_out(
+    s: &[u8],
+    layout: Layout,
+    exclude: &[u8],
+    q: Query,
+    addresses: &mut [u32; 242],
+    reaches: &mut [u32; 242],
+    starts: &mut [usize; 18],
+    firsts: &mut [usize; 16],
+    lasts: &mut [usize; 16],
+) -> usize
+    requires { ⌜ Sound (layoutOf layout) × (layoutOf layout .mostCost ≤ 65535) × Ready (layoutOf layout) (now s) (now exclude) q ⌝ }
+    requires { ⌜ Room (now addresses) (now starts) (now firsts) (now lasts) × (length (now reaches) ≡ 242) ⌝ }
+    ensures { λ r. ⌜ WorkedOut (layoutOf layout) (now (s .entry)) (searchFor (layoutOf layout) (now (s .entry)) (now (exclude .entry)) q) (now (addresses .exit)) (now (reaches .exit)) (now (starts .exit)) (now (firsts .exit)) (now (lasts .exit)) r ⌝ }
+{
+    let domains = q.domains;
+    let source = q.source;
+    let destination = q.destination;
+    let count = q.count;
+    let examined = lay_out(
+        s,
+        layout,
+        domains,
+        count,
+        source,
+        destination,
+        addresses,
+        starts,
+        firsts,
+        lasts,
+    );
+    fill_from(
+        s,
+        layout,
+        exclude,
+        q,
+        0,
+        count,
+        &*addresses,
+        &*starts,
+        &*firsts,
+        &*lasts,
+        reaches,
+    );
+    examined
+}
