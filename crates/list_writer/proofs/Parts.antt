@@ -1,20 +1,22 @@
 -- The parts of a written list: how long each can be, and that what the code stores is the part. A part's bytes are those of its stores, one run after the other.
-use mathlib.Core.Path.{_≡_, refl, sym, subst, _∙_}
+use mathlib.Core.Path.{_≡_, refl, sym, ap, subst, _∙_}
+use mathlib.Core.Logic.{_⊎_, ⊎-elim}
 use mathlib.Core.Bool.{Bool, true, false}
-use mathlib.Core.List.{List, [], _∷_, _++_}
+use mathlib.Core.List.{List, [], _∷_, _++_, append-nil}
 use mathlib.Core.Option.{Option, some}
-use Prim.Native.Nat.{ℕ, zero, suc, _+_, _-_, _≤_}
+use Prim.Native.Nat.{ℕ, zero, suc, _+_, _*_, _-_, _≤_}
 use native.Mathlib.Omega.{arith}
 use lib.ListN.{length, take, drop, replicate, length-append, length-replicate}
 use lib.Seq.{length-take-le}
 use Rattle.model.specs.declared.Domain.{Domain}
 use Rattle.model.specs.Bytes.{bytesOf}
+use Rattle.model.specs.Profile.{areaLengthFits}
 use Rattle.model.specs.Subobject.{roundedUp}
 use Rattle.model.specs.WrittenList.{writtenPin, pinIf, systemIf, writtenArea}
 use Rattle.laws.proofs.Numbers.{length-bytesOf}
-use Rattle.laws.proofs.AreaLengths.{fits-short}
-use Rattle.list_writer.specs.Placed.{Put, AreaRight, isis}
-use Rattle.list_writer.proofs.Places.{nothing-put, put-append}
+use Rattle.laws.proofs.AreaLengths.{fits-cases, fits-short}
+use Rattle.list_writer.specs.Placed.{Put, AreaRight}
+use Rattle.list_writer.proofs.Places.{take-replicate, nothing-put, put-append}
 
 -- ---- how long a part is
 
@@ -28,7 +30,7 @@ unfolding bytesOf
 system-length true asn = omega arith
 system-length false asn = omega arith
 
-isis-length : (n : ℕ) (area : List ℕ) → n ≤ 13 → length area ≡ 13 → length (isis n area) ≤ 20
+isis-length : (n : ℕ) (area : List ℕ) → n ≤ 13 → length area ≡ 13 → 4 + length (take n area ++ replicate (roundedUp n - n) 0) ≤ 20
 isis-length n area h l =
     let t : length (take n area) ≡ n = length-take-le n area (omega arith) in
     let z : length {A = ℕ} (replicate (roundedUp n - n) 0) ≡ roundedUp n - n = length-replicate (roundedUp n - n) 0 in
@@ -40,7 +42,7 @@ area-length-of zero d h l = omega arith
 area-length-of (suc zero) d h l =
     let t : length (take (d .length) (d .area)) ≡ d .length = length-take-le (d .length) (d .area) (omega arith) in
     omega arith
-area-length-of (suc (suc k)) d h l = isis-length (d .length) (d .area) h l
+area-length-of (suc (suc k)) d h l = let padded = isis-length (d .length) (d .area) h l in omega arith
 
 pub area-length : (d : Domain) → AreaRight d → length (writtenArea (d .kind) d) ≤ 20
 area-length d r = area-length-of (d .kind) d (fits-short (d .kind) (d .length) (r .fits)) (r .whole)
@@ -86,16 +88,55 @@ system-put again asn at rest s a b e h p f =
 pub no-area : (d : Domain) (at : ℕ) (s : List ℕ) → d .kind ≡ 0 → Put at (writtenArea (d .kind) d) s s at
 no-area d at s e = subst (λ (k : ℕ). Put at (writtenArea k d) s s at) (sym e) (nothing-put s at)
 
-pub ospf-put : (d : Domain) (at m n : ℕ) (s a b : List ℕ) → d .kind ≡ 1 → at ≤ length s
-    → Put at (6 ∷ 8 ∷ 0 ∷ 0 ∷ []) s a m
-    → Put m (take (d .length) (d .area)) a b n
-    → Put at (writtenArea (d .kind) d) s b n
-ospf-put d at m n s a b e h p q = subst (λ (k : ℕ). Put at (writtenArea k d) s b n) (sym e) (put-append h p q)
+-- an area kind is at most 2, and what its subobject tells of the length is a byte
+module _ (k n : ℕ) (f : areaLengthFits k n ≡ true) where
+  pub kind-small : k ≤ 2
+  kind-small =
+      ⊎-elim
+      (λ (a : (k ≡ 0) × (n ≡ 0)). omega arith)
+      (λ (u : ((k ≡ 1) × (n ≡ 4)) ⊎ ((k ≡ 2) × (1 ≤ n) × (n ≤ 13))). ⊎-elim (λ (b : (k ≡ 1) × (n ≡ 4)). omega arith) (λ (c : (k ≡ 2) × (1 ≤ n) × (n ≤ 13)). omega arith) u)
+      (fits-cases k n f)
 
-isis-kind : (k : ℕ) (d : Domain) → (k ≡ 0 → ⊥) → (k ≡ 1 → ⊥) → writtenArea k d ≡ isis (d .length) (d .area)
-isis-kind zero d h l = absurd (h refl)
-isis-kind (suc zero) d h l = absurd (l refl)
-isis-kind (suc (suc k)) d h l = refl
+  pub told-small : (k - 1) * n ≤ 13
+  told-small = let short = fits-short k n f in told k kind-small short where
+    told : (j : ℕ) → j ≤ 2 → n ≤ 13 → (j - 1) * n ≤ 13
+    told zero h l = omega arith
+    told (suc zero) h l = omega arith
+    told (suc (suc zero)) h l = omega arith
+    told (suc (suc (suc j))) h l = absurd (omega arith)
 
-pub isis-put : (d : Domain) (at n : ℕ) (s b : List ℕ) → (d .kind ≡ 0 → ⊥) → (d .kind ≡ 1 → ⊥) → Put at (isis (d .length) (d .area)) s b n → Put at (writtenArea (d .kind) d) s b n
-isis-put d at n s b h l p = subst (λ (t : List ℕ). Put at t s b n) (sym (isis-kind (d .kind) d h l)) p
+-- type, length, what is told of the area's length, 0; the area; its padding
+abbrev areaBytes : ℕ → ℕ → List ℕ → List ℕ
+areaBytes k n area = ((5 + k) ∷ (4 + roundedUp n) ∷ ((k - 1) * n) ∷ 0 ∷ take n area) ++ take (roundedUp n - n) (replicate 3 0)
+
+module _ (d : Domain) where
+  ospf-bytes : d .length ≡ 4 → areaBytes 1 (d .length) (d .area) ≡ writtenArea 1 d
+  ospf-bytes e =
+      let second : 4 + roundedUp (d .length) ≡ 8 = omega arith in
+      let third : 0 * d .length ≡ 0 = omega arith in
+      let padding : roundedUp (d .length) - d .length ≡ 0 = omega arith in
+      let rest = ap (λ (k : ℕ). take (d .length) (d .area) ++ take k (replicate 3 0)) padding ∙ append-nil (take (d .length) (d .area)) in
+      λ i. 6 ∷ second i ∷ third i ∷ 0 ∷ rest i
+
+  isis-bytes : d .length ≤ 13 → areaBytes 2 (d .length) (d .area) ≡ writtenArea 2 d
+  isis-bytes h =
+      let third : 1 * d .length ≡ d .length = omega arith in
+      let rest = ap (λ (z : List ℕ). take (d .length) (d .area) ++ z) (take-replicate (roundedUp (d .length) - d .length) 3 0 (omega arith)) in
+      λ i. 7 ∷ (4 + roundedUp (d .length)) ∷ third i ∷ 0 ∷ rest i
+
+  area-bytes : (k : ℕ) → areaLengthFits k (d .length) ≡ true → (k ≡ 0 → ⊥) → areaBytes k (d .length) (d .area) ≡ writtenArea k d
+  area-bytes k f z =
+      let n : ℕ = d .length in
+      let Same : ℕ → Type 0 = λ (j : ℕ). areaBytes j (d .length) (d .area) ≡ writtenArea j d in
+      ⊎-elim
+      (λ (a : (k ≡ 0) × (n ≡ 0)). absurd (z (a .0)))
+      (λ (u : ((k ≡ 1) × (n ≡ 4)) ⊎ ((k ≡ 2) × (1 ≤ n) × (n ≤ 13))).
+      ⊎-elim (λ (b : (k ≡ 1) × (n ≡ 4)). subst Same (sym (b .0)) (ospf-bytes (b .1))) (λ (c : (k ≡ 2) × (1 ≤ n) × (n ≤ 13)). subst Same (sym (c .0)) (isis-bytes (c .2))) u)
+      (fits-cases k n f)
+
+  pub area-put : (at m e r : ℕ) (s a b c : List ℕ) → AreaRight d → (d .kind ≡ 0 → ⊥) → at ≤ length s
+      → Put at ((5 + d .kind) ∷ (4 + roundedUp (d .length)) ∷ ((d .kind - 1) * d .length) ∷ 0 ∷ []) s a m
+      → Put m (take (d .length) (d .area)) a b e
+      → Put e (take (roundedUp (d .length) - d .length) (replicate 3 0)) b c r
+      → Put at (writtenArea (d .kind) d) s c r
+  area-put at m e r s a b c f z h p q t = subst (λ (x : List ℕ). Put at x s c r) (area-bytes (d .kind) (f .fits) z) (put-append h (put-append h p q) t)

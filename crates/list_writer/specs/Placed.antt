@@ -21,7 +21,3 @@ pub record Put (at : ℕ) (bytes old new : List ℕ) (after : ℕ) : Type 0 wher
 pub record AreaRight (d : Domain) : Type 0 where
   pub fits : areaLengthFits (d .kind) (d .length) ≡ true
   pub whole : length (d .area) ≡ 13
-
--- the type 7 subobject of an IS-IS area of this length
-abbrev pub isis : ℕ → List ℕ → List ℕ
-isis n area = 7 ∷ (4 + roundedUp n) ∷ n ∷ 0 ∷ take n area ++ replicate (roundedUp n - n) 0

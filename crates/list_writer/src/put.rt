@@ -4,7 +4,7 @@ ghost use mathlib.Core.List.{_++_};
 ghost use Prim.Native.Nat.{_+_, _-_, _≤_, _<_};
 ghost use lib.ListN.{length, take};
 ghost use Rattle.model.specs.WrittenList.{writtenPin, pinIf, systemIf, writtenArea};
-ghost use Rattle.list_writer.specs.Placed.{Put, AreaRight, isis};
+ghost use Rattle.list_writer.specs.Placed.{Put, AreaRight};
 use model::Domain;
 use model::NodeAddress;
 use wire::put_u16;
@@ -51,35 +51,24 @@ fn put_system(out: &mut [u8], at: usize, again: bool, asn: u32) -> usize
     rest + 4
 }
 
-// Type 7: an IS-IS area, padded to a multiple of 4.
-fn put_isis(out: &mut [u8], at: usize, count: u8, area: [u8; 13]) -> usize
-    requires { ⌜ (at + 20 ≤ length (now out)) × (count ≤ 13) × (length area ≡ 13) ⌝ }
-    ensures { λ r. ⌜ Put at (isis count area) (now (out .entry)) (now (out .exit)) r ⌝ }
-{
-    let n = count as usize;
-    let padded = (n + 3) / 4 * 4;
-    let head: [u8; 4] = [7, (4 + padded) as u8, count, 0];
-    let start = put_bytes(out, at, &head, 4);
-    let end = put_bytes(out, start, &area, n);
-    let zeros = [0u8; 3];
-    put_bytes(out, end, &zeros, padded - n)
-}
-
-// Type 6 or 7 by the area kind, nothing for kind 0.
+// Type 6 or 7 by the area kind, nothing for kind 0. Only type 7 tells the area's length and is padded, to a multiple of 4.
 fn put_area(out: &mut [u8], at: usize, d: Domain) -> usize
     requires { ⌜ (at + 20 ≤ length (now out)) × AreaRight d ⌝ }
     ensures { λ r. ⌜ Put at (writtenArea (d .kind) d) (now (out .entry)) (now (out .exit)) r ⌝ }
 {
-    let area = d.area;
-    if d.kind == 0 {
+    let kind = d.kind;
+    if kind == 0 {
         return at;
     }
-    if d.kind == 1 {
-        let head: [u8; 4] = [6, 8, 0, 0];
-        let start = put_bytes(out, at, &head, 4);
-        return put_bytes(out, start, &area, d.length as usize);
-    }
-    put_isis(out, at, d.length, area)
+    let n = d.length;
+    let size = n as usize;
+    let padded = (size + 3) / 4 * 4;
+    let head: [u8; 4] = [5 + kind, (4 + padded) as u8, (kind - 1) * n, 0];
+    let start = put_bytes(out, at, &head, 4);
+    let area = d.area;
+    let end = put_bytes(out, start, &area, size);
+    let zeros = [0u8; 3];
+    put_bytes(out, end, &zeros, padded - size)
 }
 
 // One domain of the sequence: its entry constraint, its AS unless it is the one before, its area.
