@@ -10,7 +10,7 @@ use Rattle.model.specs.declared.Verdict.the-variants.{Pass}
 use Rattle.model.specs.Verdict.{refuseIf, _andThen_, inTurn}
 use Rattle.model.specs.Profile.{Layout, domainCount, bandwidthBits, hopAt, hopMalformed, hopMisordered, hopVerdict, hopStart, hopCount, headerWrong, countsWrong, lengthWrong, headerVerdict}
 use Rattle.laws.proofs.Tests.{or-neither}
-use Rattle.records.specs.Misplaced.{hopMisplaced}
+use Rattle.record_checks.specs.Misplaced.{hopMisplaced}
 use Rattle.laws.proofs.Turns.{andThen-refuseIf, refuseIf-pass, inTurn-pass-all}
 
 module _ (L : Layout) (s : List ℕ) where

@@ -7,7 +7,7 @@ use records::header::domain_count;
 use records::header::hop_count;
 use records::hop::hop_at;
 use records::layout::Layout;
-use records::verdict::refuse;
+use refusal::refuse;
 ghost use mathlib.Core.Path.{_≡_};
 ghost use mathlib.Core.Bool.{cond, _&&_};
 ghost use Prim.Native.Nat.{_+_, _≤_};

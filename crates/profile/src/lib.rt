@@ -2,9 +2,9 @@
 use crate::crowd::crowded_verdict;
 use model::ProfileAnswer;
 use model::Verdict;
-use records::domain::domains_verdict;
-use records::header::header_verdict;
-use records::hop::hops_verdict;
+use record_checks::domain::domains_verdict;
+use record_checks::header::header_verdict;
+use record_checks::hop::hops_verdict;
 use records::layout::Layout;
 use records::layout::first_version;
 ghost use mathlib.Core.Path.{_≡_};

@@ -1,6 +1,3 @@
 -- What the proofs of several functions share, a module to a subject.
-mod Words
 mod Areas
-mod Neighbours
 pub mod Fields
-pub mod Turned

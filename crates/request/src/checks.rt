@@ -6,7 +6,7 @@ use model::ListKind;
 use model::Verdict;
 use profile::verdict_on;
 use records::header::domain_count;
-use records::verdict::refuse;
+use refusal::refuse;
 use subobject::form::form;
 ghost use mathlib.Core.Path.{_≡_};
 ghost use Prim.Native.Nat.{ℕ};

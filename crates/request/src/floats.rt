@@ -1,7 +1,7 @@
 // The floats of a request: number 21 for a bandwidth or a bound whose bits lie from 7F800000 up. Every float is taken, NaN and minus zero too.
 use model::Limits;
 use model::Verdict;
-use records::verdict::refuse;
+use refusal::refuse;
 ghost use mathlib.Core.Path.{_≡_};
 ghost use Rattle.model.specs.Floats.{inRange};
 ghost use Rattle.model.specs.Request.{limitsVerdict};

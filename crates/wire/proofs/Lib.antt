@@ -1,2 +1,3 @@
--- What the proofs of the writers share.
+-- What the proofs of the writers share, and words compared.
 mod Put
+mod Words

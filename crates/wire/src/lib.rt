@@ -1,9 +1,18 @@
-// Big-endian numbers read from a byte slice at a place, and written to one.
+// Big-endian numbers read from a byte slice at a place, and written to one; parts of a slice compared by them.
 ghost use mathlib.Core.Path.{_≡_};
 ghost use mathlib.Core.List.{_++_};
 ghost use Prim.Native.Nat.{_+_, _≤_, _<_};
 ghost use lib.ListN.{length, take, drop};
 ghost use Rattle.model.specs.Bytes.{number, bytesOf};
+
+pub mod order;
+
+// A byte as a number of the widest kind.
+pub fn wide(x: u8) -> usize
+    ensures { λ r. ⌜ (r ≡ x) × (r < 256) ⌝ }
+{
+    x as usize
+}
 
 // The two bytes from `at` on.
 pub fn u16_at(s: &[u8], at: usize) -> u16

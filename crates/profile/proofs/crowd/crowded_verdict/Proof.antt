@@ -9,7 +9,7 @@ use Rattle.records.proofs.Fields.{hop-within}
 use Rattle.records.specs.Layout.{layoutOf}
 use Rattle.profile.specs.Noting.{Padded}
 use Rattle.profile.proofs.Padding.{padded-none, padded-carried}
-use Rattle.records.proofs.Turned.{Turned, start, passed, refused, ended}
+use Rattle.record_checks.proofs.Turned.{Turned, start, passed, refused, ended}
 use Rattle.model.specs.Profile.{hopCount, crowdedVerdict}
 use lib.Dec.{eqb}
 use lib.ListN.{length}
