@@ -18,7 +18,7 @@ use borrow.Author.Tests.{leb-false, ltb-false}
 use Rattle.laws.proofs.Turns.{andThen-pass, refuseIf-pass}
 use Rattle.laws.proofs.Accepted.{accepted}
 use Rattle.laws.proofs.AreaLengths.{fits-short}
-use Rattle.subobject.specs.Items.{refusal}
+use Rattle.refusal.specs.Refused.{refusal}
 use Rattle.sequence.specs.Found.{WholeDomains, ShortAreas}
 use Rattle.domain_list.specs.ReadInclude.{readVerdict}
 

@@ -1,5 +1,6 @@
 // `read_include`: the checks in document 01's order, the meaning of the list, and its sequence in the lent buffers.
 use crate::include::read_list;
+use list_form::form;
 use model::DomainIndex;
 use model::ListKind;
 use model::ReadAnswer;
@@ -8,7 +9,6 @@ use model::Verdict;
 use profile::verdict_on;
 use records::header::domain_count;
 use sequence::state::State;
-use subobject::form::form;
 ghost use mathlib.Core.Path.{_≡_};
 ghost use Prim.Native.Nat.{_≤_, min};
 ghost use Rattle.sequence.specs.Reading.{stopsOf, Sound};

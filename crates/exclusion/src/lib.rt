@@ -7,9 +7,9 @@ ghost use Rattle.model.specs.declared.ListKind.the-variants.{Exclude};
 ghost use Rattle.model.specs.Subobject.{formVerdict, subobjects};
 ghost use Rattle.model.specs.Exclusion.{inPrefix, takesDomain, takesNode, excludedDomain, excludedNode};
 ghost use Rattle.subobject.specs.Items.{namedOf, AreaInside};
+use areas::has_area;
 use model::Domain;
 use model::NodeAddress;
-use subobject::area::has_area;
 use subobject::item::Named;
 use subobject::walk::subobject_at;
 

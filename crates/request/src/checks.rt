@@ -1,5 +1,6 @@
 // The checks before the meaning of the include list, in document 01's order: profile, 20, 21, 22, the form of each list.
 use crate::floats::limits_verdict;
+use list_form::form;
 use model::DomainIndex;
 use model::Limits;
 use model::ListKind;
@@ -7,7 +8,6 @@ use model::Verdict;
 use profile::verdict_on;
 use records::header::domain_count;
 use refusal::refuse;
-use subobject::form::form;
 ghost use mathlib.Core.Path.{_≡_};
 ghost use Prim.Native.Nat.{ℕ};
 ghost use Rattle.model.specs.Request.{requestVerdict};

@@ -24,7 +24,7 @@ use borrow.Author.Tests.{eq-eqb, ne-eqb, eqb-true, le-leb, lt-leb}
 use Rattle.model.specs.declared.Verdict.{Verdict}
 use Rattle.model.specs.declared.Verdict.the-variants.{Pass}
 use Rattle.model.specs.Request.{provided}
-use Rattle.subobject.specs.Items.{refusal}
+use Rattle.refusal.specs.Refused.{refusal}
 use Rattle.sequence.specs.declared.state.Waiting.{Waiting}
 use Rattle.sequence.specs.declared.state.Waiting.the-variants as Variant
 use Rattle.sequence.specs.declared.state.State.{State}

@@ -1,8 +1,8 @@
 // The domains of a profile that a subobject can mean.
+use areas::has_area;
 use model::DomainIndex;
 use records::domain::domain_at;
 use records::header::domain_count;
-use subobject::area::has_area;
 use wire::u32_at;
 ghost use mathlib.Core.Path.{_≡_};
 ghost use Prim.Native.Nat.{_+_, _≤_};

@@ -3,7 +3,7 @@ use crate::find::Found;
 use model::DomainIndex;
 use model::NodeAddress;
 use model::Verdict;
-use subobject::form::refuse;
+use refusal::refuse_at;
 ghost use mathlib.Core.Path.{_≡_};
 ghost use Prim.Native.Nat.{_≤_, _<_};
 ghost use Rattle.model.specs.Lists.{among};
@@ -105,13 +105,13 @@ fn enter_domain(st: State, at: usize, d: DomainIndex) -> Stepped
     }
     if holds(st, d) {
         return Stepped {
-            verdict: refuse(30, at),
+            verdict: refuse_at(30, at),
             state: st,
         };
     }
     if 16 <= count {
         return Stepped {
-            verdict: refuse(31, at),
+            verdict: refuse_at(31, at),
             state: st,
         };
     }
@@ -128,12 +128,12 @@ pub fn name_found(st: State, at: usize, found: Found) -> Stepped
 {
     match found {
         Found::Nothing => Stepped {
-            verdict: refuse(28, at),
+            verdict: refuse_at(28, at),
             state: st,
         },
         Found::One { domain } => enter_domain(st, at, domain),
         Found::Several => Stepped {
-            verdict: refuse(29, at),
+            verdict: refuse_at(29, at),
             state: st,
         },
     }
@@ -147,7 +147,7 @@ pub fn wait_for(st: State, at: usize, node: NodeAddress) -> Stepped
     let waiting = st.waiting;
     match waiting {
         Waiting::Node { offset: _, node: _ } => Stepped {
-            verdict: refuse(32, at),
+            verdict: refuse_at(32, at),
             state: st,
         },
         Waiting::Nothing => {

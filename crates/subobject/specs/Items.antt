@@ -1,16 +1,13 @@
 -- What the code's subobjects stand for, over the definitions of `model`.
 use mathlib.Core.Path.{_≡_}
-use mathlib.Core.Bool.{Bool, true, not, cond, _&&_, _||_}
+use mathlib.Core.Bool.{true}
 use mathlib.Core.List.{List}
-use Prim.Native.Nat.{ℕ, _+_, _-_, _%_, _≤_}
+use Prim.Native.Nat.{ℕ, _+_, _≤_}
 use lib.ListN.{length}
-use lib.Dec.{eqb, leb}
 use Rattle.model.specs.declared.ListKind.{ListKind}
-use Rattle.model.specs.declared.Verdict.{Verdict}
-use Rattle.model.specs.declared.Verdict.the-variants.{Pass, Refuse}
-use Rattle.model.specs.Bytes.{part, allZero}
+use Rattle.model.specs.declared.Verdict.the-variants.{Pass}
+use Rattle.model.specs.Bytes.{part}
 use Rattle.model.specs.Subobject as M
-use Rattle.subobject.specs.Lengths.{lengthOf}
 use Rattle.subobject.specs.declared.item.Named.{Named}
 use Rattle.subobject.specs.declared.item.Named.the-variants.{Prefix, System, Area}
 use Rattle.subobject.specs.declared.item.Item.{Item}
@@ -51,22 +48,3 @@ pub record ItemIs (k : ListKind) (s : List ℕ) (at : ℕ) (it : Item) : Type 0 
 -- the subobject at an offset, in a list of either kind whose form is right there
 abbrev pub ItemAt : List ℕ → ℕ → Item → Type 0
 ItemAt s at it = (k : ListKind) → M.subobjectVerdict k s at ≡ Pass → ItemIs k s at it
-
-abbrev pub zeroFrom : List ℕ → ℕ → ℕ → Bool
-zeroFrom s from to = allZero (part s from (to - from))
-
--- what is wrong with a subobject's first three bytes, by the number of the refusal, or 0: the type, the top bit, the area's length, the length, in this order
-unfoldable pub headWrong : ListKind → ℕ → ℕ → ℕ → ℕ
-headWrong k first n area =
-    let t = first % 128 in
-    cond (eqb (lengthOf t area) 0) 24
-    (cond (M.topWrong k (leb 128 first)) 27
-    (cond (eqb t 7 && not (leb 1 area && leb area 13)) 26
-    (cond (eqb n (lengthOf t area)) 0 25)))
-
--- the last check of a subobject's form: a field out of range, or padding that isn't zero
-abbrev pub fieldWrong : ListKind → List ℕ → ℕ → Bool
-fieldWrong k s at = (eqb (M.typeAt s at) 1 && M.prefixWrong k s at) || (eqb (M.typeAt s at) 7 && M.paddingWrong s at)
-
-abbrev pub refusal : ℕ → ℕ → Verdict
-refusal n at = Refuse (record { number = n; place = at })

@@ -6,6 +6,7 @@ ghost use Rattle.subobject.specs.Items.{Readable, NamedIs, ItemAt};
 use model::NodeAddress;
 use wire::u16_at;
 use wire::u32_at;
+use wire::wide;
 
 // What a subobject names. An area's bytes are left where they stand: in the list, from `start` on.
 pub enum Named {
@@ -29,12 +30,6 @@ pub struct Item {
     pub top: bool,
     pub named: Named,
     pub next: usize,
-}
-
-pub(crate) fn wide(x: u8) -> usize
-    ensures { λ r. ⌜ (r ≡ x) × (r < 256) ⌝ }
-{
-    x as usize
 }
 
 // What a subobject of right form names.
@@ -74,7 +69,7 @@ fn named_at(list: &[u8], at: usize) -> Named
 }
 
 // Where the subobject after the one at an offset starts.
-pub(crate) fn next_at(list: &[u8], at: usize) -> usize
+pub fn next_at(list: &[u8], at: usize) -> usize
     requires { ⌜ Readable (now list) at ⌝ }
     ensures { λ r. ⌜ r ≡ at + lengthAt (now (list .entry)) at ⌝ }
 {

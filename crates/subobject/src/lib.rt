@@ -1,5 +1,3 @@
-// The subobjects of an include or exclude list: their form, what each names, the areas they name, and the walk along a list.
-pub mod area;
-pub mod form;
+// One subobject of an include or exclude list, where its form is right: what it names, and the walk along a list.
 pub mod item;
 pub mod walk;

@@ -11,8 +11,8 @@ use Rattle.sequence.proofs.state.name_found.Tie as tie
 enum-told : tie.Need-enum-told
 enum-told c = search needs
 
-refuse-requires : tie.Need-refuse-requires
-refuse-requires c κs = search needs
+refuse-at-requires : tie.Need-refuse-at-requires
+refuse-at-requires c κs = search needs
 
 enum-known-found : tie.Need-enum-known-found
 enum-known-found c = search needs
@@ -23,14 +23,14 @@ enter-domain-requires c κs = search needs
 enum-told-2 : tie.Need-enum-told-2
 enum-told-2 c = search needs
 
-refuse-requires-2 : tie.Need-refuse-requires-2
-refuse-requires-2 c κs = search needs
+refuse-at-requires-2 : tie.Need-refuse-at-requires-2
+refuse-at-requires-2 c κs = search needs
 
 returns : tie.Need-returns
 returns c =
     let a = c .before .before .before .args in
     let pre = c .before .before .before .pre in
-    stepped-refused (a .st) _ 28 (a .at) _ (pre .0) (c .refuse .ensures) (ap (nameFound (a .at) (stateOf (a .st))) (c .before .enum-told .given .1))
+    stepped-refused (a .st) _ 28 (a .at) _ (pre .0) (c .refuse-at .ensures) (ap (nameFound (a .at) (stateOf (a .st))) (c .before .enum-told .given .1))
 
 returns-2 : tie.Need-returns-2
 returns-2 c =
@@ -42,18 +42,18 @@ returns-3 : tie.Need-returns-3
 returns-3 c =
     let a = c .before .before .before .args in
     let pre = c .before .before .before .pre in
-    stepped-refused (a .st) _ 29 (a .at) _ (pre .0) (c .refuse2 .ensures) (ap (nameFound (a .at) (stateOf (a .st))) (c .before .enum-told2 .given .1))
+    stepped-refused (a .st) _ 29 (a .at) _ (pre .0) (c .refuse-at2 .ensures) (ap (nameFound (a .at) (stateOf (a .st))) (c .before .enum-told2 .given .1))
 
 pub name-found-spec : {M : Type 1} → statement M
 name-found-spec =
     tie.close
     (tie.spec
     enum-told
-    refuse-requires
+    refuse-at-requires
     enum-known-found
     enter-domain-requires
     enum-told-2
-    refuse-requires-2
+    refuse-at-requires-2
     returns
     returns-2
     returns-3)

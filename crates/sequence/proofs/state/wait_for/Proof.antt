@@ -12,8 +12,8 @@ use Rattle.sequence.proofs.state.wait_for.Tie as tie
 enum-told : tie.Need-enum-told
 enum-told c = search needs
 
-refuse-requires : tie.Need-refuse-requires
-refuse-requires c κs = search needs
+refuse-at-requires : tie.Need-refuse-at-requires
+refuse-at-requires c κs = search needs
 
 enum-told-2 : tie.Need-enum-told-2
 enum-told-2 c = search needs
@@ -25,7 +25,7 @@ returns : tie.Need-returns
 returns c =
     let a = c .before .before .before .args in
     let pre = c .before .before .before .pre in
-    stepped-refused (a .st) _ 32 (a .at) _ (pre .0) (c .refuse .ensures)
+    stepped-refused (a .st) _ 32 (a .at) _ (pre .0) (c .refuse-at .ensures)
     (ap (λ (w : Waiting). M.wait (a .at) (stateOf (a .st)) (a .node .0) (waitingOf w)) (c .before .enum-told .given .1))
 
 returns-2 : tie.Need-returns-2
@@ -36,4 +36,4 @@ returns-2 c =
 
 pub wait-for-spec : {M : Type 1} → statement M
 wait-for-spec =
-    tie.close (tie.spec enum-told refuse-requires enum-told-2 cast-t11 returns returns-2)
+    tie.close (tie.spec enum-told refuse-at-requires enum-told-2 cast-t11 returns returns-2)

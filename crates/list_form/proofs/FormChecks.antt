@@ -1,0 +1,117 @@
+-- The form of one subobject, check by check: which refusal it is once the checks before have passed. By putting the tests' values into the definition.
+use mathlib.Core.Path.{_≡_, refl, sym, ap, _∙_}
+use mathlib.Core.Bool.{Bool, true, false, not, cond, _&&_, or-false}
+use mathlib.Core.List.{List}
+use Prim.Native.Nat.{ℕ, zero, suc, _+_, _-_, _≤_, _<_}
+use native.Mathlib.Omega.{arith}
+use lib.Dec.{eqb, leb, ltb}
+use lib.ListN.{length, getD}
+use borrow.Author.Tests.{ne-eqb, lt-ltb, le-ltb}
+use Rattle.model.specs.declared.ListKind.{ListKind}
+use Rattle.model.specs.declared.Verdict.{Verdict}
+use Rattle.model.specs.declared.Verdict.the-variants.{Pass}
+use Rattle.model.specs.Verdict.{refuseIf, _andThen_}
+use Rattle.model.specs.Bytes.{part, allZero}
+use Rattle.model.specs.Subobject.{subobjectVerdict, lengthFits, topWrong, prefixWrong, paddingWrong, typeAt, topAt, lengthAt, areaLengthAt}
+use Rattle.subobject.specs.Items.{Readable}
+use Rattle.refusal.specs.Refused.{refusal}
+use Rattle.list_form.specs.Checks.{headWrong, fieldWrong, zeroFrom}
+use Rattle.subobject.specs.Lengths.{lengthOf}
+use Rattle.subobject.proofs.FormLaws.{padded}
+use Rattle.subobject.proofs.LengthLaws.{known-length, fits-length}
+
+-- ---- the checks as the code makes them: those of the first three bytes together, as one number
+
+abbrev numbered : ℕ → ℕ → Verdict
+numbered zero at = Pass
+numbered (suc n) at = refusal (suc n) at
+
+told : (n at : ℕ) → (n ≡ 0 → ⊥) → numbered n at ≡ refusal n at
+told zero at d = absurd (d refl)
+told (suc n) at d = refl
+
+abbrev headOf : Bool → Bool → Bool → Bool → ℕ
+headOf z w a e = cond z 24 (cond w 27 (cond a 26 (cond e 0 25)))
+
+-- b too short, z no known type, w L set, a a wrong area length, e the right length, p past the end, f a wrong field
+by-head : (b z w a e p f : Bool) (at : ℕ)
+    → (refuseIf b 23 at andThen refuseIf (not (not z)) 24 at andThen refuseIf w 27 at andThen refuseIf a 26 at andThen refuseIf (not (not z && e)) 25 at andThen refuseIf p 23 at andThen refuseIf f 26 at)
+    ≡ (refuseIf b 23 at andThen numbered (headOf z w a e) at andThen refuseIf p 23 at andThen refuseIf f 26 at)
+by-head true z w a e p f at = refl
+by-head false true w a e p f at = refl
+by-head false false true a e p f at = refl
+by-head false false false true e p f at = refl
+by-head false false false false true p f at = refl
+by-head false false false false false p f at = refl
+
+head-zero : (z w a e : Bool) → headOf z w a e ≡ 0 → (not z && e) ≡ true
+head-zero true w a e q = absurd (omega arith)
+head-zero false true a e q = absurd (omega arith)
+head-zero false false true e q = absurd (omega arith)
+head-zero false false false true q = refl
+head-zero false false false false q = absurd (omega arith)
+
+module _ (k : ListKind) (s : List ℕ) (at : ℕ) where
+  abbrev pub head : ℕ
+  head = headWrong k (getD s at 0) (lengthAt s at) (areaLengthAt s at)
+
+  -- the tests of the head
+  abbrev z : Bool
+  z = eqb (lengthOf (typeAt s at) (areaLengthAt s at)) 0
+
+  abbrev w : Bool
+  w = topWrong k (topAt s at)
+
+  abbrev a : Bool
+  a = eqb (typeAt s at) 7 && not (leb 1 (areaLengthAt s at) && leb (areaLengthAt s at) 13)
+
+  abbrev e : Bool
+  e = eqb (lengthAt s at) (lengthOf (typeAt s at) (areaLengthAt s at))
+
+  judged
+      : subobjectVerdict k s at
+      ≡ (refuseIf (ltb (length s) (at + 4)) 23 at andThen numbered head at andThen refuseIf (ltb (length s) (at + lengthAt s at)) 23 at andThen refuseIf (fieldWrong k s at) 26 at)
+  unfolding subobjectVerdict headWrong
+  judged =
+      rw (fits-length (areaLengthAt s at) (lengthAt s at) (typeAt s at), known-length (areaLengthAt s at) (typeAt s at))
+      (by-head (ltb (length s) (at + 4)) z w a e (ltb (length s) (at + lengthAt s at)) (fieldWrong k s at) at)
+
+  -- a right head says that the length is the type's
+  pub head-fits : head ≡ 0 → lengthFits (typeAt s at) (areaLengthAt s at) (lengthAt s at) ≡ true
+  unfolding headWrong
+  head-fits q = rw (fits-length (areaLengthAt s at) (lengthAt s at) (typeAt s at), known-length (areaLengthAt s at) (typeAt s at)) (head-zero z w a e q)
+
+  -- which refusal it is once the checks before have passed
+  pub short : length s < at + 4 → subobjectVerdict k s at ≡ refusal 23 at
+  short h = judged ∙ (rw (lt-ltb (length s) (at + 4) h) refl)
+
+  module _ (long : at + 4 ≤ length s) where
+    pub bad-head : (head ≡ 0 → ⊥) → subobjectVerdict k s at ≡ refusal head at
+    bad-head d = judged ∙ (rw (le-ltb (length s) (at + 4) long, told head at d) refl)
+
+    module _ (fine : head ≡ 0) where
+      pub past-end : length s < at + lengthAt s at → subobjectVerdict k s at ≡ refusal 23 at
+      past-end h = judged ∙ (rw (le-ltb (length s) (at + 4) long, fine, lt-ltb (length s) (at + lengthAt s at) h) refl)
+
+      -- the last check decides
+      pub by-field : {f : Bool} → f ≡ fieldWrong k s at → at + lengthAt s at ≤ length s → subobjectVerdict k s at ≡ refuseIf f 26 at
+      by-field e h = judged ∙ (rw (le-ltb (length s) (at + 4) long, fine, le-ltb (length s) (at + lengthAt s at) h, ← e) refl)
+
+-- what a subobject that lies inside the list has for padding
+module _ {s : List ℕ} {at : ℕ} (r : Readable s at) where
+  -- the padding, from the place after the area up to the subobject's end
+  pub padding : typeAt s at ≡ 7 → not (zeroFrom s (at + 4 + areaLengthAt s at) (at + lengthAt s at)) ≡ paddingWrong s at
+  padding e =
+      let p = padded r e in
+      let d : (at + lengthAt s at) - (at + 4 + areaLengthAt s at) ≡ lengthAt s at - (4 + areaLengthAt s at) = omega arith in
+      ap (λ (n : ℕ). not (allZero (part s (at + 4 + areaLengthAt s at) n))) d
+
+module _ (k : ListKind) (s : List ℕ) (at : ℕ) where
+  pub field-1 : typeAt s at ≡ 1 → prefixWrong k s at ≡ fieldWrong k s at
+  field-1 e = rw e (sym (or-false (prefixWrong k s at)))
+
+  pub field-7 : typeAt s at ≡ 7 → paddingWrong s at ≡ fieldWrong k s at
+  field-7 e = rw e refl
+
+  pub field-none : (typeAt s at ≡ 1 → ⊥) → (typeAt s at ≡ 7 → ⊥) → false ≡ fieldWrong k s at
+  field-none d1 d7 = rw (ne-eqb (typeAt s at) 1 d1, ne-eqb (typeAt s at) 7 d7) refl

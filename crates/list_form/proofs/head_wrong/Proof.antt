@@ -1,0 +1,73 @@
+-- `list_form::head_wrong` meets its contract: at each `return` the tests that led there say which case of `headWrong` holds.
+use mathlib.Core.Path.{_≡_, sym, _∙_}
+use Prim.Native.Nat.{_%_}
+use mathlib.Core.Bool.{false}
+use lib.Dec.{eqb, leb}
+use borrow.Author.Tests.{eq-eqb, ne-eqb}
+use Rattle.model.specs.Subobject.{topWrong}
+use Rattle.subobject.specs.Lengths.{lengthOf}
+use borrow.Author.Needs.{needs}
+use Rattle.list_form.specs.Checks.{headWrong}
+use Rattle.list_form.proofs.head_wrong.Statement.{statement}
+use Rattle.list_form.proofs.head_wrong.Tie as tie
+
+-- what the first tests passed say
+known : (c : tie.Else1) → eqb (lengthOf (c .before .before .args .first % 128) (c .before .before .args .area)) 0 ≡ false
+known c = ne-eqb _ _ (λ e. c .if1 .left (c .before .length-of .ensures ∙ e))
+
+unmarked : (c : tie.Else2) → topWrong (c .before .before .before .before .args .kind) (leb 128 (c .before .before .before .before .args .first)) ≡ false
+unmarked c = sym (c .before .top-wrong .ensures) ∙ c .if2 .left
+
+length-of-requires : tie.Need-length-of-requires
+length-of-requires c κs = search needs
+
+returns : tie.Need-returns
+unfolding headWrong
+returns c = simp (eq-eqb _ _ (sym (c .before .length-of .ensures) ∙ c .if1 .taken))
+
+top-wrong-requires : tie.Need-top-wrong-requires
+top-wrong-requires c κs = search needs
+
+returns-2 : tie.Need-returns-2
+unfolding headWrong
+returns-2 c = simp (known (c .before .before), sym (c .before .top-wrong .ensures) ∙ c .if2 .taken)
+
+area-wrong-requires : tie.Need-area-wrong-requires
+area-wrong-requires c κs = search needs
+
+returns-3 : tie.Need-returns-3
+unfolding headWrong
+returns-3 c = simp (known (c .before .before .before .before), unmarked (c .before .before), sym (c .before .area-wrong .ensures) ∙ c .if3 .taken)
+
+returns-4 : tie.Need-returns-4
+unfolding headWrong
+returns-4 c =
+    simp (
+      known (c .before .before .before .before .before),
+      unmarked (c .before .before .before),
+      sym (c .before .before .area-wrong .ensures) ∙ c .before .if3 .left,
+      ne-eqb _ _ (λ e. c .if4 .taken (e ∙ sym (c .before .before .before .before .before .before .length-of .ensures))),
+    )
+
+returns-5 : tie.Need-returns-5
+unfolding headWrong
+returns-5 c =
+    simp (
+      known (c .before .before .before .before .before),
+      unmarked (c .before .before .before),
+      sym (c .before .before .area-wrong .ensures) ∙ c .before .if3 .left,
+      eq-eqb _ _ (c .if4 .left ∙ c .before .before .before .before .before .before .length-of .ensures),
+    )
+
+pub head-wrong-spec : {M : Type 1} → statement M
+head-wrong-spec =
+    tie.close
+    (tie.spec
+    length-of-requires
+    returns
+    top-wrong-requires
+    returns-2
+    area-wrong-requires
+    returns-3
+    returns-4
+    returns-5)

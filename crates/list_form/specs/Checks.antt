@@ -1,0 +1,25 @@
+-- The checks of a subobject's form as the code makes them, over the definitions of `model`.
+use mathlib.Core.Bool.{Bool, not, cond, _&&_, _||_}
+use mathlib.Core.List.{List}
+use Prim.Native.Nat.{ℕ, _-_, _%_}
+use lib.Dec.{eqb, leb}
+use Rattle.model.specs.declared.ListKind.{ListKind}
+use Rattle.model.specs.Bytes.{part, allZero}
+use Rattle.model.specs.Subobject as M
+use Rattle.subobject.specs.Lengths.{lengthOf}
+
+abbrev pub zeroFrom : List ℕ → ℕ → ℕ → Bool
+zeroFrom s from to = allZero (part s from (to - from))
+
+-- what is wrong with a subobject's first three bytes, by the number of the refusal, or 0: the type, the top bit, the area's length, the length, in this order
+unfoldable pub headWrong : ListKind → ℕ → ℕ → ℕ → ℕ
+headWrong k first n area =
+    let t = first % 128 in
+    cond (eqb (lengthOf t area) 0) 24
+    (cond (M.topWrong k (leb 128 first)) 27
+    (cond (eqb t 7 && not (leb 1 area && leb area 13)) 26
+    (cond (eqb n (lengthOf t area)) 0 25)))
+
+-- the last check of a subobject's form: a field out of range, or padding that isn't zero
+abbrev pub fieldWrong : ListKind → List ℕ → ℕ → Bool
+fieldWrong k s at = (eqb (M.typeAt s at) 1 && M.prefixWrong k s at) || (eqb (M.typeAt s at) 7 && M.paddingWrong s at)

@@ -1,0 +1,178 @@
+// The form of a subobject, check by check in document 01's order, and the form of a whole list.
+ghost use mathlib.Core.Path.{_≡_};
+ghost use Prim.Native.Nat.{_+_, _≤_, _<_};
+ghost use lib.ListN.{length};
+ghost use lib.Dec.{eqb, leb};
+ghost use mathlib.Core.Bool.{not, _&&_};
+ghost use Rattle.model.specs.Subobject.{roundedUp, formVerdict, subobjectVerdict, topWrong, prefixWrong};
+ghost use Rattle.subobject.specs.Lengths.{lengthOf};
+ghost use Rattle.subobject.specs.Items.{Readable};
+ghost use Rattle.list_form.specs.Checks.{zeroFrom, headWrong, fieldWrong};
+use model::ListKind;
+use model::Verdict;
+use refusal::refuse_at;
+use subobject::item::next_at;
+use wire::wide;
+
+// The length rule of each type: the type, its fixed length, and whether the area's length, rounded up to 4, comes on top.
+const TYPES: [u8; 5] = [1, 5, 6, 7, 32];
+
+const FIXED: [u32; 5] = [8, 8, 8, 4, 4];
+
+const WITH_AREA: [u32; 5] = [0, 0, 0, 1, 0];
+
+// An area's length rounded up to 4.
+fn rounded_up(n: u8) -> u32
+    ensures { λ r. ⌜ (r ≡ roundedUp n) × (r ≤ 260) ⌝ }
+{
+    (n as u32 + 3) / 4 * 4
+}
+
+// A subobject's length by its type and its area's length, 0 where the type isn't in the table.
+fn length_of(t: u8, area: u8) -> u32
+    ensures { λ r. ⌜ r ≡ lengthOf t area ⌝ }
+{
+    let mut i: usize = 0;
+    while i < 5 {
+        if TYPES[i] == t {
+            return FIXED[i] + WITH_AREA[i] * rounded_up(area);
+        }
+        i += 1;
+    }
+    0
+}
+
+// L set in an include list.
+fn top_wrong(kind: ListKind, top: bool) -> bool
+    ensures { λ r. ⌜ r ≡ topWrong kind top ⌝ }
+{
+    match kind {
+        ListKind::Include => top,
+        ListKind::Exclude => false,
+    }
+}
+
+// The bytes from `from` up to `to` are all zero.
+fn all_zero(list: &[u8], from: usize, to: usize) -> bool
+    requires { ⌜ (from ≤ to) × (to ≤ length (now list)) ⌝ }
+    ensures { λ r. ⌜ r ≡ zeroFrom (now (list .entry)) from to ⌝ }
+{
+    let mut i = from;
+    while i < to {
+        if list[i] != 0 {
+            return false;
+        }
+        i += 1;
+    }
+    true
+}
+
+// The prefix length, and in an exclude list the attribute, of a type 1 subobject.
+fn prefix_wrong(kind: ListKind, list: &[u8], at: usize) -> bool
+    requires { ⌜ at + 8 ≤ length (now list) ⌝ }
+    ensures { λ r. ⌜ r ≡ prefixWrong kind (now (list .entry)) at ⌝ }
+{
+    let bits = list[at + 6];
+    match kind {
+        ListKind::Include => bits != 32,
+        ListKind::Exclude => {
+            if 32 < bits {
+                return true;
+            }
+            list[at + 7] != 1
+        }
+    }
+}
+
+// The area length of type 7 isn't 1 to 13.
+fn area_wrong(t: u8, area: u8) -> bool
+    ensures { λ r. ⌜ r ≡ (eqb t 7 && not (leb 1 area && leb area 13)) ⌝ }
+{
+    if t != 7 {
+        return false;
+    }
+    if area < 1 {
+        return true;
+    }
+    if 13 < area {
+        return true;
+    }
+    false
+}
+
+// A field out of range, or padding that isn't zero, in a subobject of right length.
+fn field_wrong(kind: ListKind, list: &[u8], at: usize) -> bool
+    requires { ⌜ Readable (now list) at ⌝ }
+    ensures { λ r. ⌜ r ≡ fieldWrong kind (now (list .entry)) at ⌝ }
+{
+    let t = list[at] % 128;
+    if t == 1 {
+        return prefix_wrong(kind, list, at);
+    }
+    if t == 7 {
+        let start = at + 4 + wide(list[at + 2]);
+        return !all_zero(list, start, at + wide(list[at + 1]));
+    }
+    false
+}
+
+// What is wrong with a subobject's first three bytes, by the refusal's number in document 01's order, or 0.
+fn head_wrong(kind: ListKind, first: u8, n: u8, area: u8) -> u32
+    ensures { λ r. ⌜ r ≡ headWrong kind first n area ⌝ }
+{
+    let t = first % 128;
+    let size = n as u32;
+    let wanted = length_of(t, area);
+    if wanted == 0 {
+        return 24;
+    }
+    if top_wrong(kind, 128 <= first) {
+        return 27;
+    }
+    if area_wrong(t, area) {
+        return 26;
+    }
+    if size != wanted {
+        return 25;
+    }
+    0
+}
+
+// The form of the subobject at an offset.
+fn form_at(kind: ListKind, list: &[u8], at: usize) -> Verdict
+    requires { ⌜ (at < length (now list)) × (length (now list) ≤ 1024) ⌝ }
+    ensures { λ r. ⌜ r ≡ subobjectVerdict kind (now (list .entry)) at ⌝ }
+{
+    let left = list.len() - at;
+    if left < 4 {
+        return refuse_at(23, at);
+    }
+    let n = list[at + 1];
+    let wrong = head_wrong(kind, list[at], n, list[at + 2]);
+    if wrong != 0 {
+        return refuse_at(wrong, at);
+    }
+    if left < wide(n) {
+        return refuse_at(23, at);
+    }
+    if field_wrong(kind, list, at) {
+        return refuse_at(26, at);
+    }
+    Verdict::Pass
+}
+
+// The first subobject whose form is wrong refuses the list.
+pub fn form(kind: ListKind, list: &[u8]) -> Verdict
+    requires { ⌜ length (now list) ≤ 1024 ⌝ }
+    ensures { λ r. ⌜ r ≡ formVerdict kind (now (list .entry)) ⌝ }
+{
+    let mut at: usize = 0;
+    while at < list.len() {
+        let verdict = form_at(kind, list, at);
+        if let Verdict::Refuse(r) = verdict {
+            return Verdict::Refuse(r);
+        }
+        at = next_at(list, at);
+    }
+    Verdict::Pass
+}
