@@ -1,4 +1,2 @@
-// Writing a domain list: which sequences can be written, the subobjects put one after the other, and `write_list`.
-pub mod put;
-pub mod unwritable;
+// A sequence of domains as a list: `write_list`.
 pub mod writer;

@@ -6,9 +6,8 @@ ghost use Rattle.model.specs.declared.Verdict.the-variants.{Pass};
 ghost use Rattle.model.specs.Lists.{over};
 ghost use Rattle.model.specs.Profile.{version1, profileVerdict, domains};
 ghost use Rattle.list_writer.specs.Writing.{systemAgain, Writable, AllPut, allOrNone, WrittenBy};
-use crate::put::put_bytes;
-use crate::put::put_stop;
-use crate::unwritable::unwritable;
+use list_parts::put_bytes;
+use list_parts::put_stop;
 use model::DomainIndex;
 use model::NodeAddress;
 use model::Refusal;
@@ -16,6 +15,7 @@ use model::Verdict;
 use model::WriteAnswer;
 use profile::verdict_on;
 use records::domain::domain_at;
+use writable::unwritable;
 
 // Domain i is not the first, and its AS is the one before.
 fn same_system(i: usize, before: u32, asn: u32) -> bool

@@ -10,7 +10,7 @@ use denote.Ref.{now}
 use lib.ListN.{length, getD, take}
 use Rattle.model.specs.Profile.{domains}
 use Rattle.model.specs.WrittenList.{written, stops}
-use Rattle.list_writer.specs.Placed.{AreaRight}
+use Rattle.list_parts.specs.Placed.{AreaRight}
 use Rattle.list_writer.proofs.Steps.{left, sequence, inside, area-right, stop-length, stop-room, stop-reach, turn, nothing-left}
 use Rattle.list_writer.proofs.writer.put_all.Statement.{statement}
 use Rattle.list_writer.proofs.writer.put_all.Tie as tie

@@ -1,4 +1,4 @@
--- `unwritable::unwritable` meets its contract: at each `return` the tests that led there give the value, the domain count being how many domain records there are.
+-- `writable::unwritable` meets its contract: at each `return` the tests that led there give the value, the domain count being how many domain records there are.
 use Prim.Native.Nat.{ℕ, _≤_}
 use mathlib.Core.Path.{_≡_, refl, sym, ap, _∙_}
 use mathlib.Core.Bool.{Bool, true, not, _||_}
@@ -10,10 +10,10 @@ use Rattle.model.specs.Lists.{any, allDifferent}
 use Rattle.model.specs.Profile.{domainCount, domains}
 use Rattle.model.specs.WrittenList.{firstPinned, unwritable}
 use Rattle.laws.proofs.Records.{length-domains}
-use Rattle.list_writer.proofs.Scans.{wrongFrom}
+use Rattle.writable.proofs.Scans.{wrongFrom}
 use borrow.Author.Needs.{needs}
-use Rattle.list_writer.proofs.unwritable.unwritable.Statement.{statement}
-use Rattle.list_writer.proofs.unwritable.unwritable.Tie as tie
+use Rattle.writable.proofs.unwritable.Statement.{statement}
+use Rattle.writable.proofs.unwritable.Tie as tie
 
 -- past the counts, what is left of 35
 past-counts : (profile indexes marks nodes : List ℕ) (count : ℕ) → count ≡ domainCount profile

@@ -1,10 +1,10 @@
--- `put::put_system` meets its contract: nothing for the AS before, else four bytes and the number.
+-- `list_parts::put_system` meets its contract: nothing for the AS before, else four bytes and the number.
 use native.Mathlib.Omega.{arith}
 use denote.Ref.{now}
-use Rattle.list_writer.proofs.Parts.{no-system, system-put}
+use Rattle.list_parts.proofs.Parts.{no-system, system-put}
 use borrow.Author.Needs.{needs}
-use Rattle.list_writer.proofs.put.put_system.Statement.{statement}
-use Rattle.list_writer.proofs.put.put_system.Tie as tie
+use Rattle.list_parts.proofs.put_system.Statement.{statement}
+use Rattle.list_parts.proofs.put_system.Tie as tie
 
 returns : tie.Need-returns
 returns c =

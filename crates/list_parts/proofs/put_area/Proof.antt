@@ -1,14 +1,14 @@
--- `put::put_area` meets its contract: nothing for kind 0, else four bytes, the area's, and the padding, one run after the other.
+-- `list_parts::put_area` meets its contract: nothing for kind 0, else four bytes, the area's, and the padding, one run after the other.
 use native.Mathlib.Omega.{arith}
 use mathlib.Core.Path.{_≡_}
 use denote.Ref.{now}
 use lib.ListN.{length, take}
 use lib.Seq.{length-take-le}
 use Rattle.laws.proofs.AreaLengths.{fits-short}
-use Rattle.list_writer.proofs.Parts.{no-area, kind-small, told-small, area-put}
+use Rattle.list_parts.proofs.Parts.{no-area, kind-small, told-small, area-put}
 use borrow.Author.Needs.{needs}
-use Rattle.list_writer.proofs.put.put_area.Statement.{statement}
-use Rattle.list_writer.proofs.put.put_area.Tie as tie
+use Rattle.list_parts.proofs.put_area.Statement.{statement}
+use Rattle.list_parts.proofs.put_area.Tie as tie
 
 returns : tie.Need-returns
 returns c =

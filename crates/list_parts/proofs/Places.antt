@@ -7,7 +7,7 @@ use native.Mathlib.Numerals.{add-one}
 use native.Mathlib.Omega.{arith}
 use lib.ListN.{length, getD, take, drop, set, replicate, take-append-drop, length-append, length-drop}
 use lib.Seq.{length-take-le, take-at, drop-drop, drop-append-add, paste, paste-suc}
-use Rattle.list_writer.specs.Placed.{placed, Put}
+use Rattle.list_parts.specs.Placed.{placed, Put}
 
 -- ---- one byte more of a run
 

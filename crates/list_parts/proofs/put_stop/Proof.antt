@@ -1,10 +1,10 @@
--- `put::put_stop` meets its contract: the three parts one after the other.
+-- `list_parts::put_stop` meets its contract: the three parts one after the other.
 use native.Mathlib.Omega.{arith}
-use Rattle.list_writer.proofs.Parts.{pin-length, system-length}
-use Rattle.list_writer.proofs.Places.{put-append}
+use Rattle.list_parts.proofs.Parts.{pin-length, system-length}
+use Rattle.list_parts.proofs.Places.{put-append}
 use borrow.Author.Needs.{needs}
-use Rattle.list_writer.proofs.put.put_stop.Statement.{statement}
-use Rattle.list_writer.proofs.put.put_stop.Tie as tie
+use Rattle.list_parts.proofs.put_stop.Statement.{statement}
+use Rattle.list_parts.proofs.put_stop.Tie as tie
 
 put-pin-requires : tie.Need-put-pin-requires
 put-pin-requires c κs = search needs

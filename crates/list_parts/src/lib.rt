@@ -4,7 +4,7 @@ ghost use mathlib.Core.List.{_++_};
 ghost use Prim.Native.Nat.{_+_, _-_, _≤_, _<_};
 ghost use lib.ListN.{length, take};
 ghost use Rattle.model.specs.WrittenList.{writtenPin, pinIf, systemIf, writtenArea};
-ghost use Rattle.list_writer.specs.Placed.{Put, AreaRight};
+ghost use Rattle.list_parts.specs.Placed.{Put, AreaRight};
 use model::Domain;
 use model::NodeAddress;
 use wire::put_u16;

@@ -1,4 +1,4 @@
--- `put::put_bytes` meets its contract. The loop's invariant: the first j bytes are copied. The measure is what is left.
+-- `list_parts::put_bytes` meets its contract. The loop's invariant: the first j bytes are copied. The measure is what is left.
 use Prim.Native.Nat.{_≤_, _-_}
 use mathlib.Core.Path.{_≡_, refl}
 use native.Mathlib.Omega.{arith}
@@ -6,9 +6,9 @@ use borrow.Author.Needs.{needs}
 use denote.Ref.{now}
 use lib.ListN.{length, length-set}
 use lib.Seq.{paste, paste-zero}
-use Rattle.list_writer.proofs.Places.{one-more, all-put}
-use Rattle.list_writer.proofs.put.put_bytes.Statement.{statement}
-use Rattle.list_writer.proofs.put.put_bytes.Tie as tie
+use Rattle.list_parts.proofs.Places.{one-more, all-put}
+use Rattle.list_parts.proofs.put_bytes.Statement.{statement}
+use Rattle.list_parts.proofs.put_bytes.Tie as tie
 
 abbrev Inv-loop : tie.InvT-loop
 Inv-loop out₀ at bytes n j₀ out j = (j ≤ n) × (out ≡ paste out₀ at bytes j) × (length out ≡ length out₀)

@@ -1,16 +1,16 @@
--- `unwritable::stop_wrong` meets its contract. The loop's invariant: one of the stops from i on is wrong just when one of all is. The measure is what is left.
+-- `writable::stop_wrong` meets its contract. The loop's invariant: one of the stops from i on is wrong just when one of all is. The measure is what is left.
 use Prim.Native.Nat.{_≤_, _-_}
 use mathlib.Core.Path.{_≡_, refl, sym, _∙_}
 use native.Mathlib.Omega.{arith}
 use borrow.Author.Needs.{needs}
 use borrow.Author.Tests.{le-leb, lt-leb, lt-ltb, le-ltb}
 use lib.ListN.{length}
-use Rattle.list_writer.proofs.Scans.{wrongFrom, no-domain, no-mark, again, right, none-wrong}
-use Rattle.list_writer.proofs.unwritable.stop_wrong.Statement.{statement}
-use Rattle.list_writer.proofs.unwritable.stop_wrong.Tie as tie
-use Rattle.list_writer.proofs.unwritable.stop_wrong.Reads as reads
-use Rattle.list_writer.proofs.unwritable.stop_wrong.Lts as lts
-use Rattle.list_writer.proofs.unwritable.comes_again.Reads as comes-again-reads
+use Rattle.writable.proofs.Scans.{wrongFrom, no-domain, no-mark, again, right, none-wrong}
+use Rattle.writable.proofs.stop_wrong.Statement.{statement}
+use Rattle.writable.proofs.stop_wrong.Tie as tie
+use Rattle.writable.proofs.stop_wrong.Reads as reads
+use Rattle.writable.proofs.stop_wrong.Lts as lts
+use Rattle.writable.proofs.comes_again.Reads as comes-again-reads
 
 abbrev Inv-loop : tie.InvT-loop
 Inv-loop indexes marks count i₀ i = (i ≤ length indexes) × (wrongFrom count indexes marks i ≡ wrongFrom count indexes marks 0)

@@ -1,9 +1,9 @@
--- `put::put_pin` meets its contract: nothing for mark 0, else three numbers in a row.
+-- `list_parts::put_pin` meets its contract: nothing for mark 0, else three numbers in a row.
 use denote.Ref.{now}
-use Rattle.list_writer.proofs.Parts.{no-pin, pin-put}
+use Rattle.list_parts.proofs.Parts.{no-pin, pin-put}
 use borrow.Author.Needs.{needs}
-use Rattle.list_writer.proofs.put.put_pin.Statement.{statement}
-use Rattle.list_writer.proofs.put.put_pin.Tie as tie
+use Rattle.list_parts.proofs.put_pin.Statement.{statement}
+use Rattle.list_parts.proofs.put_pin.Tie as tie
 
 returns : tie.Need-returns
 returns c =

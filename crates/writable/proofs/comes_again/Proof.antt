@@ -1,4 +1,4 @@
--- `unwritable::comes_again` meets its contract. The loop's invariant: what is left from i on has one just when the whole has. The measure is what is left.
+-- `writable::comes_again` meets its contract. The loop's invariant: what is left from i on has one just when the whole has. The measure is what is left.
 use Prim.Native.Nat.{_≤_, _-_}
 use mathlib.Core.Path.{_≡_, refl, sym, _∙_}
 use native.Mathlib.Omega.{arith}
@@ -7,9 +7,9 @@ use borrow.Author.Tests.{eq-eqb, ne-eqb}
 use lib.Dec.{eqb}
 use lib.ListN.{length, drop}
 use Rattle.model.specs.Lists.{any, among}
-use Rattle.list_writer.proofs.Scans.{any-hit, any-miss, any-end}
-use Rattle.list_writer.proofs.unwritable.comes_again.Statement.{statement}
-use Rattle.list_writer.proofs.unwritable.comes_again.Tie as tie
+use Rattle.writable.proofs.Scans.{any-hit, any-miss, any-end}
+use Rattle.writable.proofs.comes_again.Statement.{statement}
+use Rattle.writable.proofs.comes_again.Tie as tie
 
 abbrev Inv-loop : tie.InvT-loop
 Inv-loop indexes from x i₀ i = (i ≤ length indexes) × (any (eqb (x .0)) (drop i indexes) ≡ any (eqb (x .0)) (drop from indexes))

@@ -15,8 +15,8 @@ use Rattle.model.specs.Subobject.{roundedUp}
 use Rattle.model.specs.WrittenList.{writtenPin, pinIf, systemIf, writtenArea}
 use Rattle.laws.proofs.Numbers.{length-bytesOf}
 use Rattle.laws.proofs.AreaLengths.{fits-cases, fits-short}
-use Rattle.list_writer.specs.Placed.{Put, AreaRight}
-use Rattle.list_writer.proofs.Places.{take-replicate, nothing-put, put-append}
+use Rattle.list_parts.specs.Placed.{Put, AreaRight}
+use Rattle.list_parts.proofs.Places.{take-replicate, nothing-put, put-append}
 
 -- ---- how long a part is
 
