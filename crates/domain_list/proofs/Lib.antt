@@ -1,4 +1,3 @@
-pub mod Includes
 pub mod Copies
 pub mod SequenceCopies
 pub mod ReadChecks

@@ -1,3 +1,2 @@
-// What an include list means on a profile: its sequence of domains and their entry constraints, or its refusal.
-pub mod include;
+// What an include list means on any profile: `read_include`.
 pub mod read;

@@ -1,5 +1,5 @@
 // `read_include`: the checks in document 01's order, the meaning of the list, and its sequence in the lent buffers.
-use crate::include::read_list;
+use include_list::read_list;
 use list_form::form;
 use model::DomainIndex;
 use model::ListKind;

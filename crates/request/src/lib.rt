@@ -1,6 +1,6 @@
 // The checks of a whole request, in document 01's order, and what passes them.
 use crate::checks::request_verdict;
-use domain_list::include::read_list;
+use include_list::read_list;
 use model::DomainIndex;
 use model::Limits;
 use model::NodeAddress;

@@ -1,8 +1,8 @@
--- `include::start` meets its contract: one domain, the ingress, with no entry constraint.
-use Rattle.domain_list.proofs.Includes.{started}
+-- `include_list::start` meets its contract: one domain, the ingress, with no entry constraint.
+use Rattle.include_list.proofs.Includes.{started}
 use borrow.Author.Needs.{needs}
-use Rattle.domain_list.proofs.include.start.Statement.{statement}
-use Rattle.domain_list.proofs.include.start.Tie as tie
+use Rattle.include_list.proofs.start.Statement.{statement}
+use Rattle.include_list.proofs.start.Tie as tie
 
 cast-i : tie.Need-cast-i
 cast-i c = search needs

@@ -1,8 +1,8 @@
--- `include::area_at` meets its contract: the type at the offset tells.
-use Rattle.domain_list.proofs.Includes.{area-6, area-or-not, area-end}
+-- `include_list::area_at` meets its contract: the type at the offset tells.
+use Rattle.include_list.proofs.Includes.{area-6, area-or-not, area-end}
 use borrow.Author.Needs.{needs}
-use Rattle.domain_list.proofs.include.area_at.Statement.{statement}
-use Rattle.domain_list.proofs.include.area_at.Tie as tie
+use Rattle.include_list.proofs.area_at.Statement.{statement}
+use Rattle.include_list.proofs.area_at.Tie as tie
 
 returns : tie.Need-returns
 returns c = area-end (c .before .args .list .now) (c .before .args .at) (c .if1 .taken)

@@ -1,4 +1,4 @@
--- `include::read_item` meets its contract: each arm is a case of `readNamed`.
+-- `include_list::read_item` meets its contract: each arm is a case of `readNamed`.
 use mathlib.Core.Path.{_≡_, sym, ap, subst, _∙_}
 use Rattle.model.specs.Profile.{domains}
 use Rattle.model.specs.Bytes.{part}
@@ -8,8 +8,8 @@ use Rattle.subobject.specs.Items.{namedOf, AreaInside}
 use Rattle.sequence.specs.Reading.{stateOf, SteppedIs, nameFound}
 use Rattle.sequence.proofs.States.{named-found}
 use borrow.Author.Needs.{needs}
-use Rattle.domain_list.proofs.include.read_item.Statement.{statement}
-use Rattle.domain_list.proofs.include.read_item.Tie as tie
+use Rattle.include_list.proofs.read_item.Statement.{statement}
+use Rattle.include_list.proofs.read_item.Tie as tie
 
 enum-known-named : tie.Need-enum-known-named
 enum-known-named c = search needs

@@ -1,4 +1,4 @@
--- `include::read_list` meets its contract. The loop's invariant: the rest of the list, read from the state at hand, means what the whole list means. The measure is what is left of the list.
+-- `include_list::read_list` meets its contract. The loop's invariant: the rest of the list, read from the state at hand, means what the whole list means. The measure is what is left of the list.
 use mathlib.Core.Path.{_≡_, refl, sym, ap, subst, _∙_}
 use Prim.Native.Nat.{ℕ, _≤_, _-_, _+_}
 use native.Mathlib.Omega.{arith}
@@ -15,9 +15,9 @@ use Rattle.model.specs.Subobject.{subobjectVerdict, subobjectAt, lengthAt}
 use Rattle.subobject.specs.Items.{ItemIs}
 use Rattle.sequence.specs.Reading.{stopsOf, stateOf, Sound, MeaningIs}
 use Rattle.subobject.proofs.FormLaws.{readable}
-use Rattle.domain_list.proofs.Includes.{read-here, read-passed, read-refused, read-end, read-start}
-use Rattle.domain_list.proofs.include.read_list.Statement.{statement}
-use Rattle.domain_list.proofs.include.read_list.Tie as tie
+use Rattle.include_list.proofs.Includes.{read-here, read-passed, read-refused, read-end, read-start}
+use Rattle.include_list.proofs.read_list.Statement.{statement}
+use Rattle.include_list.proofs.read_list.Tie as tie
 
 abbrev Inv-loop : tie.InvT-loop
 Inv-loop profile list st₀ at₀ st at =

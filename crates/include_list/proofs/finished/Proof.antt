@@ -1,11 +1,11 @@
--- `include::finished` meets its contract: each arm is a case of `finish`.
+-- `include_list::finished` meets its contract: each arm is a case of `finish`.
 use mathlib.Core.Path.{_≡_, refl, sym, ap}
 use Rattle.model.specs.Sequence as M
 use Rattle.sequence.specs.declared.state.Waiting.{Waiting}
 use Rattle.sequence.specs.Reading.{waitingOf, stateOf}
 use borrow.Author.Needs.{needs}
-use Rattle.domain_list.proofs.include.finished.Statement.{statement}
-use Rattle.domain_list.proofs.include.finished.Tie as tie
+use Rattle.include_list.proofs.finished.Statement.{statement}
+use Rattle.include_list.proofs.finished.Tie as tie
 
 enum-told : tie.Need-enum-told
 enum-told c = search needs

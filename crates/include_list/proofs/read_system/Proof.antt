@@ -1,12 +1,12 @@
--- `include::read_system` meets its contract: followed by an area the AS only becomes current, else what was found is named.
+-- `include_list::read_system` meets its contract: followed by an area the AS only becomes current, else what was found is named.
 use mathlib.Core.Path.{_≡_, sym, ap, subst, _∙_}
 use Rattle.model.specs.Profile.{domains}
 use Rattle.model.specs.Sequence as M
 use Rattle.sequence.specs.Reading.{stateOf, SteppedIs, nameFound}
 use Rattle.sequence.proofs.States.{stepped-on, named-found}
 use borrow.Author.Needs.{needs}
-use Rattle.domain_list.proofs.include.read_system.Statement.{statement}
-use Rattle.domain_list.proofs.include.read_system.Tie as tie
+use Rattle.include_list.proofs.read_system.Statement.{statement}
+use Rattle.include_list.proofs.read_system.Tie as tie
 
 with-asn-requires : tie.Need-with-asn-requires
 with-asn-requires c κs = search needs
