@@ -11,7 +11,7 @@ ghost use Rattle.list_form.specs.Checks.{zeroFrom, headWrong, fieldWrong
 use model::ListKind;
 use model::Verdict;
 use refusal::refuse_at;
-use subobject::item::next_at;
+use subobject::walk::next_after;
 use wire::wide;
 
 // The length rule of each type: the type, its fixed length, and whether the area's length, rounded up to 4, comes on top.
@@ -172,7 +172,7 @@ pub fn form(kind: ListKind, list: &[u8]) -> Verdict
         if let Verdict::Refuse(r) = verdict {
             return Verdict::Refuse(r);
         }
-        at = next_at(list, at);
+        at = next_after(list, at);
     }
     Verdict::Pass
 }

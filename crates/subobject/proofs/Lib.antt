@@ -1,3 +1,4 @@
 pub mod LengthLaws
 pub mod FormLaws
 pub mod WalkOwns
+pub mod MadeWalk

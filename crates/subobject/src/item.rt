@@ -69,7 +69,7 @@ fn named_at(list: &[u8], at: usize) -> Named
 }
 
 // Where the subobject after the one at an offset starts.
-pub fn next_at(list: &[u8], at: usize) -> usize
+pub(crate) fn next_at(list: &[u8], at: usize) -> usize
     requires { ⌜ Readable (now list) at ⌝ }
     ensures { λ r. ⌜ r ≡ at + lengthAt (now (list .entry)) at ⌝ }
 {

@@ -45,3 +45,12 @@ pub fn subobject_at(list: &[u8], at: usize) -> Item
 {
     subobject_here(walk_from(list, at))
 }
+
+// Where the subobject after the one at a place starts, for the same callers.
+pub fn next_after(list: &[u8], at: usize) -> usize
+    requires { ⌜ Readable (now list) at ⌝ }
+    ensures { λ r. ⌜ r ≡ at + lengthAt (now (list .entry)) at ⌝ }
+{
+    let w = moved_past(walk_from(list, at));
+    w.at
+}

@@ -40,8 +40,8 @@ returns c =
 enum-told : tie.Need-enum-told Inv-loop μ-loop
 enum-told c = search needs
 
-next-at-requires : tie.Need-next-at-requires Inv-loop μ-loop
-next-at-requires c κs =
+next-after-requires : tie.Need-next-after-requires Inv-loop μ-loop
+next-after-requires c κs =
     let a = c .before .before .before .before .before .before .args in
     readable (a .kind) (a .list .now) (c .before .before .before .before .loop .at) (right c)
 
@@ -49,7 +49,7 @@ loop-less : tie.Need-loop-less Inv-loop μ-loop
 loop-less c =
     let a = c .before .before .before .before .before .before .before .args in
     let r = right-subobject (a .kind) (a .list .now) (c .before .before .before .before .before .loop .at) (right (c .before)) in
-    let n = c .next-at .ensures in
+    let n = c .next-after .ensures in
     omega (arith, r .whole, r .long)
 
 loop-again : tie.Need-loop-again Inv-loop μ-loop
@@ -57,7 +57,7 @@ loop-again c =
     let a = c .before .before .before .before .before .before .before .args in
     let l = c .before .before .before .before .before .loop in
     let e = right (c .before) in
-    let n = c .next-at .ensures in (
+    let n = c .next-after .ensures in (
       rw n ((right-subobject (a .kind) (a .list .now) (l .at) e) .whole),
       ap (formLeft (a .kind) (a .list .now)) n
           ∙ sym (form-next (a .kind) (a .list .now) (l .at) (c .before .before .before .before .loop-test .taken) e)
@@ -81,7 +81,7 @@ form-spec =
     enum-known-verdict
     returns
     enum-told
-    next-at-requires
+    next-after-requires
     loop-less
     loop-again
     returns-2)
