@@ -66,7 +66,7 @@ module _ (S : Search) (few : length (S .sequence) ≤ 16) (cheap : (h : Hop) →
   code-is i a = ap (λ (e : TreeEntry). codeIf (e .reachable) (e .cost)) (entry-is S i a)
 
   -- a least cost is that of at most 16 hops
-  cost-bound : (i a : ℕ) → (reachAt i a) .reachable ≡ true → (reachAt i a) .cost ≤ 1048560
+  pub cost-bound : (i a : ℕ) → (reachAt i a) .reachable ≡ true → (reachAt i a) .cost ≤ 1048560
   cost-bound i a t =
       let r = leastFrom-some (suffixesAt S i a) t in
       let e = r .2 in

@@ -42,7 +42,7 @@ fn arrival(exclude: &[u8], destination: NodeAddress) -> u32
 }
 
 // The domain after place i of the sequence: the next one, or, at the last, the same.
-fn next_domain(domains: [DomainIndex; 16], count: usize, i: usize) -> DomainIndex
+pub fn next_domain(domains: [DomainIndex; 16], count: usize, i: usize) -> DomainIndex
     requires { ⌜ (length domains ≡ 16) × (count ≤ 16) × (i < count) ⌝ }
     ensures { λ r. ⌜ r ≡ getD domains (nextPlace count i) (record { 0 = 0 }) ⌝ }
 {

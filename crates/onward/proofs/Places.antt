@@ -1,0 +1,114 @@
+-- A place of the sequence as it reads once the tree is worked out: its leg and the leg's hop records, and the numbers that stand beside the next place's nodes.
+-- From what was laid out, and from lists laid one after the other.
+use mathlib.Core.Path.{_≡_, sym, ap, subst, _∙_}
+use mathlib.Core.List.{List, _++_, map, List·Memᴰ}
+use Prim.Native.Nat.{ℕ, suc, _+_, _-_, _≤_, _<_}
+use native.Mathlib.Nat.{zero-add}
+use native.Mathlib.Omega.{arith}
+use lib.ListN.{length, drop, getD, take-append-drop}
+use lib.Seq.{slice}
+use Rattle.model.specs.declared.Hop.{Hop}
+use Rattle.model.specs.Lists.{countFrom, each}
+use Rattle.model.specs.Profile.{Layout, hops}
+use Rattle.model.specs.Sequence.{Stop}
+use Rattle.model.specs.Request.{Search}
+use Rattle.model.specs.Path.{Leg, legs, legAt, noLeg}
+use Rattle.laws.proofs.AcceptedPaths.{accepted-costs}
+use Rattle.hop_range.specs.Ranges.{PairRange}
+use Rattle.levels.specs.Levels.{nodesAt, nodesUpTo, startOf}
+use Rattle.levels.proofs.Blocks.{each-block, place-nodes}
+use Rattle.request.specs.declared.Query.{Query}
+use Rattle.request.specs.Query.{domainAt}
+use Rattle.vspt.specs.Leg.{nextPlace}
+use Rattle.vspt.specs.Reaches.{codeAt, Small, beside, NextPlace}
+use Rattle.vspt.specs.Tree.{codesFrom, WorkedOut}
+use Rattle.vspt.proofs.Filled.{level-long, codes-long}
+use Rattle.vspt.proofs.Known.{beside-any, code-small}
+use Rattle.vspt.proofs.Sequences.{stops-long, leg-of}
+use Rattle.onward.specs.Worked.{Worked}
+
+-- ---- the numbers of a place
+
+starts-at : (S : Search) (k : ℕ) → length (codesFrom S 0 k) ≡ startOf S k
+unfolding nodesUpTo each countFrom
+starts-at S k = sym (zero-add (length (codesFrom S 0 k))) ∙ codes-long S 0 k ∙ ap (startOf S) (zero-add k)
+
+-- they stand between its start and the next one's, beside its nodes
+pub place-codes
+    : (S : Search) (L : Layout) (s addresses codes starts firsts lasts : List ℕ) (examined : ℕ)
+    → WorkedOut L s S addresses codes starts firsts lasts examined
+    → (i : ℕ) → i ≤ length (S .sequence) → slice (startOf S i) (startOf S (suc i)) codes ≡ map (codeAt S i) (nodesAt S i)
+unfolding codesFrom
+place-codes S L s addresses codes starts firsts lasts examined out i h =
+    let n = suc (length (S .sequence)) in
+    let rest = drop (startOf S n) codes in
+    (λ j. slice (sym (starts-at S i) j) (sym (starts-at S (suc i)) j) (sym (take-append-drop (startOf S n) codes) j))
+    ∙ ap (λ (l : List ℕ). slice (length (codesFrom S 0 i)) (length (codesFrom S 0 (suc i))) (l ++ rest)) (out .codes-are)
+    ∙ each-block (λ (j : ℕ). map (codeAt S j) (nodesAt S j)) n i rest (omega arith)
+
+-- ---- a place of the query's sequence
+
+module _
+    (S : Search) (L : Layout) (s : List ℕ) (q : Query) (addresses codes starts firsts lasts : List ℕ)
+    (w : Worked S L s q addresses codes starts firsts lasts) (i : ℕ) (h : i < q .count)
+  where
+    long : length (S .sequence) ≡ q .count
+    long = ap length (w .sequence-is) ∙ stops-long q
+
+    pub in-sequence : i < length (S .sequence)
+    in-sequence = omega (arith, long)
+
+    pub few : length (S .sequence) ≤ 16
+    few = omega (arith, long, w .most)
+
+    pub cheap : (x : Hop) → List·Memᴰ x (S .hops) → x .cost ≤ 65535
+    cheap x m =
+        let k = accepted-costs L s (w .profile-right) x (subst (λ (hs : List Hop). List·Memᴰ x hs) (w .hops-are) m) in
+        omega (arith, w .cheap)
+
+    pub leg-is : legAt S i ≡ record { from = domainAt q i; to = domainAt q (nextPlace (q .count) i) }
+    leg-is = ap (λ (l : List Stop). getD (legs l) i noLeg) (w .sequence-is) ∙ leg-of q i h
+
+    pub leg-range : PairRange L s (domainAt q i) (domainAt q (nextPlace (q .count) i)) (getD firsts i 0) (getD lasts i 0)
+    leg-range = subst (λ (leg : Leg). PairRange L s (leg .from) (leg .to) (getD firsts i 0) (getD lasts i 0)) leg-is (w .out .laid .ranges i in-sequence)
+
+    -- ---- the next place
+
+    from-is : getD starts (suc i) 0 ≡ startOf S (suc i)
+    from-is = w .out .laid .starts-are (suc i) (omega (arith, long))
+
+    to-is : getD starts (suc (suc i)) 0 ≡ startOf S (suc (suc i))
+    to-is = w .out .laid .starts-are (suc (suc i)) (omega (arith, long))
+
+    pub next-nodes : slice (getD starts (suc i) 0) (getD starts (suc (suc i)) 0) addresses ≡ nodesAt S (suc i)
+    next-nodes =
+        (λ j. slice (from-is j) (to-is j) addresses)
+        ∙ place-nodes S L s addresses starts firsts lasts (w .examined) (w .out .laid) (suc i) (omega (arith, long))
+
+    pub next-codes : slice (getD starts (suc i) 0) (getD starts (suc (suc i)) 0) codes ≡ map (codeAt S (suc i)) (nodesAt S (suc i))
+    next-codes =
+        (λ j. slice (from-is j) (to-is j) codes)
+        ∙ place-codes S L s addresses codes starts firsts lasts (w .examined) (w .out) (suc i) (omega (arith, long))
+
+    -- it ends no later than the last
+    ends-by : startOf S (suc (suc i)) ≤ 242
+    ends-by =
+        let n = suc (length (S .sequence)) in
+        let e : suc (suc i) + (n - suc (suc i)) ≡ n = omega (arith, long) in
+        let m = ap (startOf S) e in
+        omega (arith, codes-long S (suc (suc i)) (n - suc (suc i)), w .out .laid .fits)
+
+    pub next-place : NextPlace addresses codes (getD starts (suc i) 0) (getD starts (suc (suc i)) 0)
+    next-place =
+        let a = from-is in
+        let b = to-is in
+        let last = ends-by in
+        record {
+          order = omega (arith, level-long S (suc i));
+          in-addresses = omega (arith, w .room .for-addresses);
+          in-codes = omega (arith, w .codes-room);
+          small =
+              λ v.
+              subst Small (λ j. beside (sym next-nodes j) (sym next-codes j) v)
+              (beside-any (codeAt S (suc i)) Small (λ k. absurd (omega arith)) (λ x. code-small S few cheap (suc i) x) (nodesAt S (suc i)) v);
+        }

@@ -1,0 +1,38 @@
+-- `on_shortest` meets its contract: nothing is left behind the head, or the two sums of costs are compared.
+-- Assumes nothing.
+use mathlib.Core.Path.{_≡_, sym, ap}
+use Prim.Native.Nat.{ℕ, _+_, _≤_, _<_, _^_}
+use native.Mathlib.Omega.{arith}
+use borrow.Author.Needs.{needs}
+use Rattle.laws.proofs.Split.{onShortest}
+use Rattle.vspt.specs.Reaches.{unreachable, reachOf, Small}
+use Rattle.vspt.proofs.Codes.{reach-none, reach-some}
+use Rattle.onward.proofs.on_shortest.Statement.{statement}
+use Rattle.onward.proofs.on_shortest.Tie as tie
+
+-- the sum is a cost
+cost-fits : (cost there : ℕ) → cost ≤ 65535 → Small there → (there ≡ unreachable → ⊥) → there < 2 ^ 32 → cost + there < unreachable
+cost-fits cost there h small some fits = let k = small (omega arith) in omega arith
+
+returns : tie.Need-returns
+returns c =
+    let a = c .before .args in
+    sym (ap (onShortest (reachOf (a .here)) (a .h)) (reach-none (a .there) (c .if1 .taken)))
+
+add-result : tie.Need-add-result
+add-result c =
+    let start = c .before .before in
+    let a = start .args in
+    let k = cost-fits (a .h .cost) (a .there) (start .pre .0) (start .pre .1) (c .before .if1 .left) (search needs) in
+    omega arith
+
+returns-2 : tie.Need-returns-2
+returns-2 c =
+    let start = c .before .before in
+    let a = start .args in
+    sym
+    (λ j.
+    onShortest (reach-some (a .here) (λ e. let k = start .pre .2 in omega arith) j) (a .h) (reach-some (a .there) (c .before .if1 .left) j))
+
+pub on-shortest-spec : {M : Type 1} → statement M
+on-shortest-spec = tie.close (tie.spec returns add-result returns-2)
