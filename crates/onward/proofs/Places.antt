@@ -1,11 +1,11 @@
 -- A place of the sequence as it reads once the tree is worked out: its leg and the leg's hop records, and the numbers that stand beside the next place's nodes.
 -- From what was laid out, and from lists laid one after the other.
-use mathlib.Core.Path.{_≡_, sym, ap, subst, _∙_}
+use mathlib.Core.Path.{_≡_, refl, sym, ap, subst, _∙_}
 use mathlib.Core.List.{List, _++_, map, List·Memᴰ}
 use Prim.Native.Nat.{ℕ, suc, _+_, _-_, _≤_, _<_}
 use native.Mathlib.Nat.{zero-add}
 use native.Mathlib.Omega.{arith}
-use lib.ListN.{length, drop, getD, take-append-drop}
+use lib.ListN.{length, take, drop, getD, take-append-drop, length-take}
 use lib.Seq.{slice}
 use Rattle.model.specs.declared.Hop.{Hop}
 use Rattle.model.specs.Lists.{countFrom, each}
@@ -91,12 +91,16 @@ module _
         ∙ place-codes S L s addresses codes starts firsts lasts (w .examined) (w .out) (suc i) (omega (arith, long))
 
     -- it ends no later than the last
-    ends-by : startOf S (suc (suc i)) ≤ 242
+    ends-by : startOf S (suc (suc i)) ≤ startOf S (suc (length (S .sequence)))
     ends-by =
         let n = suc (length (S .sequence)) in
         let e : suc (suc i) + (n - suc (suc i)) ≡ n = omega (arith, long) in
         let m = ap (startOf S) e in
-        omega (arith, codes-long S (suc (suc i)) (n - suc (suc i)), w .out .laid .fits)
+        omega (arith, codes-long S (suc (suc i)) (n - suc (suc i)))
+
+    -- and both lists hold all places
+    held : (xs ys : List ℕ) (n : ℕ) → take n xs ≡ ys → length ys ≡ n → n ≤ length xs
+    held xs ys n e k = omega (arith, length-take n xs, ap length e)
 
     pub next-place : NextPlace addresses codes (getD starts (suc i) 0) (getD starts (suc (suc i)) 0)
     next-place =
@@ -105,8 +109,8 @@ module _
         let last = ends-by in
         record {
           order = omega (arith, level-long S (suc i));
-          in-addresses = omega (arith, w .room .for-addresses);
-          in-codes = omega (arith, w .codes-room);
+          in-addresses = omega (arith, held addresses _ _ (w .out .laid .addresses-are) refl);
+          in-codes = omega (arith, held codes _ _ (w .out .codes-are) (starts-at S (suc (length (S .sequence)))));
           small =
               λ v.
               subst Small (λ j. beside (sym next-nodes j) (sym next-codes j) v)

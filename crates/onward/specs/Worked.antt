@@ -9,7 +9,6 @@ use Rattle.model.specs.Floats.{inRange}
 use Rattle.model.specs.Profile.{Layout, hops, profileVerdict}
 use Rattle.model.specs.Request.{Search}
 use Rattle.records.specs.Layout.{Sound}
-use Rattle.levels.specs.Levels.{Room}
 use Rattle.request.specs.declared.Query.{Query}
 use Rattle.request.specs.Query.{stopsOf}
 use Rattle.vspt.specs.Reaches.{unreachable, codeAt}
@@ -27,8 +26,6 @@ pub record Worked (S : Search) (L : Layout) (s : List ℕ) (q : Query) (addresse
   pub limits-are : S .limits ≡ q .limits
   pub most : q .count ≤ 16
   pub domains-long : length (q .domains) ≡ 16
-  pub room : Room addresses starts firsts lasts
-  pub codes-room : length codes ≡ 242
   pub examined : ℕ
   pub out : WorkedOut L s S addresses codes starts firsts lasts examined
 
