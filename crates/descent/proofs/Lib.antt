@@ -1,0 +1,3 @@
+-- What the proofs of the two recursions share.
+mod Written
+pub mod Found

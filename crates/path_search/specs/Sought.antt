@@ -1,0 +1,37 @@
+-- What a search for a path finds: the first of the shortest paths above a given list, which may be empty; and how a given list's first address stands to the source.
+use mathlib.Core.Path.{_≡_}
+use mathlib.Core.Bool.{Bool, true, false}
+use mathlib.Core.List.{List, [], _∷_, head?}
+use mathlib.Core.Option.{none, some}
+use Prim.Native.Nat.{ℕ, suc, _≤_}
+use lib.Dec.{eqb, ltb}
+use lib.ListN.{length, take}
+use Rattle.model.specs.Request.{Search}
+use Rattle.model.specs.Path.{Route, shortestPaths}
+use Rattle.model.specs.Calls.{greaterThan}
+use Rattle.path_search.specs.declared.Start.{Start}
+use Rattle.path_search.specs.declared.Start.the-variants.{Before, Same, Behind}
+use Rattle.path_search.specs.declared.Sought.{Sought}
+
+-- the source stands behind a smaller first address and behind no list at all
+abbrev pub startIf : Bool → Bool → Start
+startIf true same = Before
+startIf false true = Same
+startIf false false = Behind
+
+unfoldable pub startOf : List ℕ → ℕ → Start
+startOf [] a = Before
+startOf (x ∷ g) a = startIf (ltb x a) (eqb x a)
+
+-- a path found: its total and its addresses, `long` of them
+pub record SoughtPath (S : Search) (given : List ℕ) (long : ℕ) (r : Sought) : Type 0 where
+  pub path : Route
+  pub first : head? (greaterThan given (shortestPaths S)) ≡ some path
+  pub total-is : path .total ≡ r .total
+  pub addresses-are : path .addresses ≡ take long (r .path)
+  pub small : r .total ≤ 1048560
+
+pub record SoughtIs (S : Search) (given : List ℕ) (long : ℕ) (r : Sought) : Type 0 where
+  pub there : r .found ≡ true → SoughtPath S given long r
+  pub missing : r .found ≡ false → head? (greaterThan given (shortestPaths S)) ≡ none
+  pub cells : length (r .path) ≡ 17

@@ -1,0 +1,181 @@
+// The first of the shortest paths above a given list of addresses: the tree is worked out, the bound asked once, and the path found by going down the tree.
+use crate::bound::keeps_bound;
+use descent::first_by;
+use descent::next_after;
+use model::Limits;
+use model::NodeAddress;
+use onward::Heads;
+use records::layout::Layout;
+use request::Query;
+use vspt::reach::UNREACHABLE;
+use vspt::work_out;
+ghost use mathlib.Core.Path.{_≡_};
+ghost use mathlib.Core.Bool.{true, not, _&&_};
+ghost use lib.Dec.{eqb};
+ghost use Prim.Native.Nat.{ℕ, suc, _≤_, _<_};
+ghost use lib.ListN.{length};
+ghost use Rattle.model.specs.Floats.{inRange};
+ghost use Rattle.model.specs.Path.{keepsBound};
+ghost use Rattle.model.specs.Request.{Search};
+ghost use Rattle.laws.proofs.NextSplit.{nextFrom};
+ghost use Rattle.records.specs.Layout.{layoutOf, Sound};
+ghost use Rattle.vspt.specs.Reaches.{unreachable};
+ghost use Rattle.request.specs.Query.{searchFor, Ready};
+ghost use Rattle.onward.specs.Worked.{Worked, Stands, Ways};
+ghost use Rattle.onward.specs.Onward.{legsFrom};
+ghost use Rattle.descent.specs.Routes.{Written};
+ghost use Rattle.path_search.specs.Sought.{startOf, SoughtIs};
+
+pub mod bound;
+
+// How a given list starts: before the source (or not at all), with it, or behind it.
+pub enum Start {
+    Before,
+    Same,
+    Behind,
+}
+
+// A path found: its total, and its addresses at the start of `path`.
+pub struct Sought {
+    pub found: bool,
+    pub total: u32,
+    pub path: [u32; 17],
+}
+
+fn start_of(given: &[u32], source: NodeAddress) -> Start
+    ensures { λ r. ⌜ r ≡ startOf (now (given .entry)) (source .0) ⌝ }
+{
+    if given.len() == 0 {
+        return Start::Before;
+    }
+    let x = given[0];
+    if x < source.0 {
+        return Start::Before;
+    }
+    if x == source.0 {
+        return Start::Same;
+    }
+    Start::Behind
+}
+
+// The first of the cheapest paths above the given list, from the source with `here` left.
+fn above(
+    s: &[u8],
+    layout: Layout,
+    q: Query,
+    here: u32,
+    addresses: &[u32; 242],
+    reaches: &[u32; 242],
+    starts: &[usize; 18],
+    firsts: &[usize; 16],
+    lasts: &[usize; 16],
+    given: &[u32],
+    path: &mut [u32],
+) -> bool
+    requires { ⌜ (q .count < length (now path)) × (1 ≤ length (now given) → length (now given) ≡ suc (q .count)) ⌝ }
+    requires { ⌜ Ways (layoutOf layout) (now s) q (now addresses) (now reaches) (now starts) (now firsts) (now lasts) 0 (q .source .0) here ⌝ }
+    ensures { λ r. ⌜ ((S : Search) → Worked S (layoutOf layout) (now (s .entry)) q (now (addresses .entry)) (now (reaches .entry)) (now (starts .entry)) (now (firsts .entry)) (now (lasts .entry)) → Stands S 0 (q .source .0) here
+        → Written 0 (nextFrom S (legsFrom S 0) 0 (q .source .0) (now (given .entry))) (now (path .entry)) r (now (path .exit))) ⌝ }
+{
+    let source = q.source;
+    let count = q.count;
+    let start = start_of(given, source);
+    match start {
+        Start::Before => first_by(
+            s,
+            layout,
+            q,
+            0,
+            count,
+            source,
+            here,
+            Heads::Any,
+            addresses,
+            reaches,
+            starts,
+            firsts,
+            lasts,
+            path,
+        ),
+        Start::Same => next_after(
+            s,
+            layout,
+            q,
+            0,
+            count,
+            source,
+            here,
+            addresses,
+            reaches,
+            starts,
+            firsts,
+            lasts,
+            given,
+            path,
+        ),
+        Start::Behind => false,
+    }
+}
+
+// The source reaches the destination, and what is left there keeps the bound.
+fn admissible(limits: Limits, here: u32) -> bool
+    requires { ⌜ ((here ≡ unreachable → ⊥) → here ≤ 1048560) × (limits .bounded ≡ true → inRange (limits .bound) ≡ true) ⌝ }
+    ensures { λ r. ⌜ r ≡ not (eqb here unreachable) && keepsBound limits here ⌝ }
+{
+    if here == UNREACHABLE {
+        return false;
+    }
+    keeps_bound(limits, here)
+}
+
+// The first of the shortest paths above the given list; of all where it is empty.
+pub fn search(s: &[u8], layout: Layout, exclude: &[u8], q: Query, given: &[u32]) -> Sought
+    requires { ⌜ Sound (layoutOf layout) × (layoutOf layout .mostCost ≤ 65535) × Ready (layoutOf layout) (now s) (now exclude) q ⌝ }
+    requires { ⌜ (1 ≤ length (now given) → length (now given) ≡ suc (q .count)) ⌝ }
+    ensures { λ r. ⌜ SoughtIs (searchFor (layoutOf layout) (now (s .entry)) (now (exclude .entry)) q) (now (given .entry)) (suc (q .count)) r ⌝ }
+{
+    let mut addresses = [0u32; 242];
+    let mut reaches = [0u32; 242];
+    let mut starts = [0usize; 18];
+    let mut firsts = [0usize; 16];
+    let mut lasts = [0usize; 16];
+    let mut path = [0u32; 17];
+    work_out(
+        s,
+        layout,
+        exclude,
+        q,
+        &mut addresses,
+        &mut reaches,
+        &mut starts,
+        &mut firsts,
+        &mut lasts,
+    );
+    let here = reaches[0];
+    let limits = q.limits;
+    if !admissible(limits, here) {
+        return Sought {
+            found: false,
+            total: 0,
+            path,
+        };
+    }
+    let found = above(
+        s,
+        layout,
+        q,
+        here,
+        &addresses,
+        &reaches,
+        &starts,
+        &firsts,
+        &lasts,
+        given,
+        &mut path,
+    );
+    Sought {
+        found,
+        total: here,
+        path,
+    }
+}

@@ -1,0 +1,90 @@
+-- What a call for a path gives by value, case by case of its outcome: a refusal, no path, a path. From the laws that an answer goes by the first path alone.
+use mathlib.Core.Path.{_≡_, refl, sym, ap, ap₂, _∙_}
+use mathlib.Core.Bool.{Bool, true, false, not}
+use mathlib.Core.List.{List, [], _∷_, head?}
+use mathlib.Core.Option.{none, some}
+use Prim.Native.Nat.{ℕ, suc, _≤_, _<_}
+use native.Mathlib.Omega.{arith}
+use lib.Dec.{ltb}
+use lib.Ieee.{Float, binary32, toBits, isNan}
+use lib.ListN.{length, take}
+use Rattle.model.specs.declared.Refusal.{Refusal}
+use Rattle.model.specs.declared.PathAnswer.{PathAnswer}
+use Rattle.model.specs.declared.PathAnswer.the-variants.{Found, NoPath, End, Refused}
+use Rattle.model.specs.Floats.{inRange, floatOf}
+use Rattle.model.specs.Request.{Search}
+use Rattle.model.specs.Path.{Route, shortestPaths}
+use Rattle.model.specs.Answers.{refused3, done3, plain3, numbersOfPath}
+use Rattle.model.specs.Calls.{Outcome, nothing, found, firstOf, greaterThan}
+use Rattle.laws.proofs.Tests.{and-both}
+use Rattle.laws.proofs.Split.{answer-some, answer-none}
+use Rattle.path_search.specs.declared.Sought.{Sought}
+use Rattle.paths.specs.declared.route.Routed.{Routed}
+use Rattle.path_search.specs.Sought.{SoughtPath, SoughtIs}
+use Rattle.paths.specs.Routed.{noneAnswer, noneNumber, RoutedBy}
+
+-- no path is found in a refusal, or in the answer that there is none
+not-found : (r : Refusal) (total : ℕ) (x : Float) → Refused r ≡ Found total x → ⊥
+not-found r total x e = let z : _≡_ {A = ℕ} 0 1 = cc in omega arith
+
+none-not-found : (again : Bool) (total : ℕ) (x : Float) → noneAnswer again ≡ Found total x → ⊥
+none-not-found true total x e = let z : _≡_ {A = ℕ} 0 1 = cc in omega arith
+none-not-found false total x e = let z : _≡_ {A = ℕ} 0 1 = cc in omega arith
+
+pub refused-by : (r : Refusal) (room : ℕ) (path : List ℕ) → length path ≡ 17 → RoutedBy (nothing (refused3 r)) room (record { answer = Refused r; count = 0; path = path })
+refused-by r room path long =
+    record {
+      numbers-are = refl;
+      written-is = refl;
+      few = omega arith;
+      fits = omega arith;
+      long = long;
+      real = λ total x e. absurd (not-found r total x e);
+    }
+
+none-numbers : (again : Bool) → numbersOfPath (noneAnswer again) ≡ plain3 (noneNumber again)
+none-numbers true = refl
+none-numbers false = refl
+
+pub none-by
+    : (again : Bool) (answer : PathAnswer) (ps : List Route) (room : ℕ) (path : List ℕ) → answer ≡ noneAnswer again → head? ps ≡ none → length path ≡ 17
+    → RoutedBy (firstOf (noneNumber again) ps) room (record { answer = answer; count = 0; path = path })
+none-by again answer ps room path is e long =
+    let o = answer-none (noneNumber again) ps e in
+    record {
+      numbers-are = ap numbersOfPath is ∙ none-numbers again ∙ sym (ap (λ (x : Outcome ℕ). x .numbers) o);
+      written-is = sym (ap (λ (x : Outcome ℕ). x .written) o);
+      few = omega arith;
+      fits = omega arith;
+      long = long;
+      real = λ total x f. absurd (none-not-found again total x (sym is ∙ f));
+    }
+
+found-float : (m n : ℕ) (x y : Float) → Found m x ≡ Found n y → x ≡ y
+found-float m n x y e = cc
+
+no-nan : (x : Float) → inRange x ≡ true → isNan x ≡ false
+unfolding inRange
+no-nan x t = go (isNan x) (and-both (not (isNan x)) (ltb (toBits binary32 x) 0x7f800000) t .0)
+  where
+    go : (b : Bool) → not b ≡ true → b ≡ false
+    go true e = sym e
+    go false e = refl
+
+pub found-by
+    : (number : ℕ) (S : Search) (given : List ℕ) (count count′ room : ℕ) (sought : Sought) (x : Float)
+    → SoughtPath S given (suc count) sought → length (sought .path) ≡ 17 → count < 17 → suc count ≤ room → count′ ≡ suc count → x ≡ floatOf (sought .total) → inRange x ≡ true
+    → RoutedBy (firstOf number (greaterThan given (shortestPaths S))) room (record { answer = Found (sought .total) x; count = count′; path = sought .path })
+found-by number S given count count′ room sought x p long few fits is float right =
+    let o = answer-some number (greaterThan given (shortestPaths S)) (p .first) in
+    record {
+      numbers-are =
+          (λ j. done3 (sought .total) (toBits binary32 (float j)))
+          ∙ (λ j. done3 (sym (p .total-is) j) (toBits binary32 (floatOf (sym (p .total-is) j))))
+          ∙ sym (ap (λ (y : Outcome ℕ). y .numbers) o);
+      written-is = ap (λ (n : ℕ). take n (sought .path)) is ∙ sym (p .addresses-are) ∙ sym (ap (λ (y : Outcome ℕ). y .written) o);
+      few = omega arith;
+      fits = omega arith;
+      long = long;
+      real = λ total y e. ap isNan (sym (found-float (sought .total) total x y e)) ∙ no-nan x right;
+    }

@@ -1,0 +1,44 @@
+-- `route::answered` meets its contract, by whether a path was found.
+-- Assumes nothing.
+use mathlib.Core.Path.{_≡_, refl, sym, ap, _∙_}
+use native.Mathlib.Omega.{arith}
+use native.Mathlib.Numerals.{add-one}
+use borrow.Author.Tests.{not-true, not-false}
+use Rattle.model.specs.Path.{shortestPaths}
+use Rattle.model.specs.Calls.{greaterThan}
+use Rattle.paths.specs.Routed.{noneNumber}
+use Rattle.paths.proofs.Answers.{none-by, found-by}
+use borrow.Author.Needs.{needs}
+use Rattle.paths.proofs.route.answered.Statement.{statement}
+use Rattle.paths.proofs.route.answered.Tie as tie
+use Rattle.paths.proofs.route.answered.Reads as reads
+use Rattle.paths.proofs.route.answered.Lts as lts
+use Rattle.path_search.proofs.bound.total_float.Reads as total-float-reads
+use Rattle.paths.proofs.route.none_answer.Reads as none-answer-reads
+
+none-answer-requires : tie.Need-none-answer-requires
+none-answer-requires c κs = search needs
+
+returns : tie.Need-returns
+returns c =
+    let a = c .before .before .before .before .args in
+    λ S given room is fits.
+    none-by (a .again) _ (greaterThan given (shortestPaths S)) room (a .sought .path) (c .none-answer .ensures) (is .missing (not-true _ (c .before .if1 .taken))) (is .cells)
+
+total-float-requires : tie.Need-total-float-requires
+total-float-requires c κs = c .before .before .before .pre .1 (not-false _ (c .if1 .left))
+
+add-t10 : tie.Need-add-t10
+add-t10 c = search needs
+
+returns-2 : tie.Need-returns-2
+returns-2 c =
+    let start = c .before .before .before .before in
+    let a = start .args in
+    let float = c .total-float .ensures in
+    λ S given room is fits.
+    found-by (noneNumber (a .again)) S given (a .count) _ room (a .sought) _ (is .there (not-false _ (c .before .if1 .left))) (is .cells) (start .pre .0) fits (add-one (a .count)) (float .0) (float .1)
+
+pub answered-spec : {M : Type 1} → statement M
+answered-spec =
+    tie.close (tie.spec none-answer-requires returns total-float-requires add-t10 returns-2)

@@ -1,0 +1,44 @@
+-- `route::sought_route` meets its contract: the search is that of the first version's layout.
+-- Assumes nothing.
+use mathlib.Core.Path.{_≡_, refl, sym, ap, subst, _∙_}
+use native.Mathlib.Omega.{arith}
+use Prim.Native.Nat.{ℕ, suc, _≤_}
+use Rattle.model.specs.Profile.{Layout, version1}
+use Rattle.records.specs.Layout.{layoutOf, Sound}
+use Rattle.profile.proofs.Access.{version1-sound}
+use Rattle.request.specs.Query.{searchFor, Ready}
+use Rattle.path_search.specs.Sought.{SoughtIs}
+use borrow.Author.Needs.{needs}
+use Rattle.paths.proofs.route.sought_route.Statement.{statement}
+use Rattle.paths.proofs.route.sought_route.Tie as tie
+use Rattle.paths.proofs.route.sought_route.Reads as reads
+use Rattle.paths.proofs.route.sought_route.Lts as lts
+use Rattle.paths.proofs.route.answered.Reads as answered-reads
+use Rattle.path_search.proofs.search.Reads as search-reads
+use Rattle.records.proofs.layout.first_version.Reads as first-version-reads
+
+first-version-requires : tie.Need-first-version-requires
+first-version-requires c κs = search needs
+
+search-requires : tie.Need-search-requires
+search-requires c κs =
+    let start = c .before .before .before .before in
+    let a = start .args in
+    let e = sym (c .first-version .ensures) in
+    ((subst Sound e version1-sound, subst (λ (L : Layout). L .mostCost ≤ 65535) e (omega arith), subst (λ (L : Layout). Ready L (a .profile .now) (a .exclude .now) (a .q)) e (start .pre .0)), start .pre .1)
+
+answered-requires : tie.Need-answered-requires
+answered-requires c κs =
+    let start = c .before .before .before .before .before in
+    (omega (arith, start .pre .0 .most), λ t. (c .search .ensures .there t) .small)
+
+returns : tie.Need-returns
+returns c =
+    let a = c .before .before .before .before .before .before .args in
+    λ room fits.
+    c .answered .ensures (searchFor version1 (a .profile .now) (a .exclude .now) (a .q)) (a .given .now) room
+    (subst (λ (L : Layout). SoughtIs (searchFor L (a .profile .now) (a .exclude .now) (a .q)) (a .given .now) (suc (a .q .count)) (c .before .search .result)) (c .before .before .first-version .ensures) (c .before .search .ensures)) fits
+
+pub sought-route-spec : {M : Type 1} → statement M
+sought-route-spec =
+    tie.close (tie.spec first-version-requires search-requires answered-requires returns)
