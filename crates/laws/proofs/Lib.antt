@@ -7,6 +7,7 @@ pub mod Ascending
 pub mod ShortestPathsExact
 pub mod FirstNextExact
 pub mod SeriesIsBook
+pub mod SeriesListing
 pub mod Turns
 pub mod Accepted
 pub mod HopOrder

@@ -18,7 +18,7 @@ use Rattle.model.specs.Request.{Request, Accepted, sequenceOf, searchOf}
 use Rattle.model.specs.Path.{Route, paths, shortestPaths}
 use Rattle.model.specs.Answers.{refused3}
 use Rattle.model.specs.Calls.{Outcome, nothing, firstOf, answerPath, pathLength, firstInto, first, nextInto, next}
-use Rattle.model.specs.Series.{Kind, firstCall, nextCall, Call, Reply, replyTo, Entry, noRoute, bookFirst, bookNext, bookEntry, book, callOutcome, lastAfter, run}
+use Rattle.model.specs.Series.{Kind, firstCall, nextCall, Call, Reply, replyTo, Entry, noRoute, bookFirst, bookNext, bookEntry, book, refusedCall, callOutcome, lastAfter, run}
 use Rattle.laws.proofs.ShortestPathsExact.{Ascending, EachLong}
 use Rattle.laws.proofs.FirstNextExact.{first-accepted, next-unstarted, next-after}
 
@@ -130,11 +130,11 @@ refused-call r x e last nextCall room = ap (λ (y : Reading (List Stop)). nextIn
 -- a request that isn't accepted: every call gives its refusal and leaves the buffer as it is
 pub series-refused
     : (r : Request) (x : Refusal) → sequenceOf r ≡ refused x
-    → (last : List ℕ) (calls : List Call) → run r last calls ≡ map (λ (c : Call). record { numbers = refused3 x; buffer = c .buffer }) calls
+    → (last : List ℕ) (calls : List Call) → run r last calls ≡ map (refusedCall x) calls
 unfolding run over
 series-refused r x e last [] = refl
 series-refused r x e last (c ∷ cs) =
     run-call r last c cs (nothing (refused3 x)) (refused-call r x e last (c .kind) (length (c .buffer)))
     ∙ ap {B = List Reply}
-    (λ (rest : List Reply). record { numbers = refused3 x; buffer = c .buffer } ∷ rest)
+    (λ (rest : List Reply). refusedCall x c ∷ rest)
     (series-refused r x e (lastAfter (eqb (x .number) 0) [] last) cs)

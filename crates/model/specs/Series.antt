@@ -1,15 +1,17 @@
--- A series of calls for first and next, and what it must answer: document 01's "book", here the reference series. Beside it the run that really makes the
--- calls, each next given the path last written. That the two agree for every accepted request is the law `series-is-book`.
+-- A series of calls for first and next, and what it must answer, `replies`: document 01's "book", here the reference series, or a refusal. Beside it the run
+-- that really makes the calls, each next given the path last written. That the two agree for every request is the law `series-replies`.
 use Prim.Native.Nat.{ℕ, zero, suc}
 use mathlib.Core.Bool.{Bool, true, false}
-use mathlib.Core.List.{List, [], _∷_}
+use mathlib.Core.List.{List, [], _∷_, map}
 use lib.ListN.{length, getD}
 use lib.Dec.{eqb, ltb}
 use Rattle.model.specs.Lists.{over}
-use Rattle.model.specs.Request.{Request}
-use Rattle.model.specs.Path.{Route}
+use Rattle.model.specs.declared.Refusal.{Refusal}
+use Rattle.model.specs.Sequence.{Stop, Reading, refused, good}
+use Rattle.model.specs.Request.{Request, sequenceOf, searchOf}
+use Rattle.model.specs.Path.{Route, shortestPaths}
 use Rattle.model.specs.Answers.{Numbers, refused3, plain3}
-use Rattle.model.specs.Calls.{Outcome, nothing, found, first, next}
+use Rattle.model.specs.Calls.{Outcome, nothing, found, pathLength, first, next}
 
 pub data Kind : Type 0 where
   firstCall nextCall : Kind
@@ -70,6 +72,18 @@ book listing needed p [] = []
 book listing needed p (c ∷ cs) =
     let e = bookEntry listing needed p (c .kind) (length (c .buffer)) in
     replyTo c (e .outcome) ∷ book listing needed (e .after) cs
+
+-- ---- what a series must answer: for an accepted request the reference series from p = 0 on; else each call gives the refusal and keeps its buffer
+
+abbrev pub refusedCall : Refusal → Call → Reply
+refusedCall x c = record { numbers = refused3 x; buffer = c .buffer }
+
+abbrev pub repliesBy : Request → Reading (List Stop) → List Call → List Reply
+repliesBy r (refused x) calls = map (refusedCall x) calls
+repliesBy r (good sequence) calls = book (shortestPaths (searchOf r sequence)) (pathLength sequence) 0 calls
+
+unfoldable pub replies : Request → List Call → List Reply
+replies r calls = repliesBy r (sequenceOf r) calls
 
 -- ---- the run of the calls themselves: a next is given a copy of the path last written, before any an empty list
 
