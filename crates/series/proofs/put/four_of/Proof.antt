@@ -1,0 +1,55 @@
+-- `put::four_of` meets its contract: an equation for each case of the answer.
+use mathlib.Core.Path.{sym, ap}
+use mathlib.Core.List.{List}
+use Prim.Native.Nat.{ℕ}
+use borrow.Author.Needs.{needs}
+use Rattle.model.specs.declared.PathAnswer.{PathAnswer}
+use Rattle.model.specs.Answers.{numbersOfPath}
+use Rattle.laws.proofs.Tests.{false-T}
+use Rattle.series.specs.Runs.{fourOf}
+use Rattle.series.proofs.put.four_of.Statement.{statement}
+use Rattle.series.proofs.put.four_of.Tie as tie
+
+abbrev told : PathAnswer → List ℕ
+told answer = fourOf (numbersOfPath answer)
+
+enum-known-answer : tie.Need-enum-known-answer
+enum-known-answer c = search needs
+
+float-to-bits-t6 : tie.Need-float-to-bits-t6
+float-to-bits-t6 c = false-T (c .before .before .before .pre _ _ (c .before .answer .given .1))
+
+enum-told : tie.Need-enum-told
+enum-told c = search needs
+
+enum-told-2 : tie.Need-enum-told-2
+enum-told-2 c = search needs
+
+enum-known-answer-2 : tie.Need-enum-known-answer-2
+enum-known-answer-2 c = search needs
+
+returns : tie.Need-returns
+returns c = ap told (sym (c .before .answer .given .1))
+
+returns-2 : tie.Need-returns-2
+returns-2 c = ap told (sym (c .enum-told .given .1))
+
+returns-3 : tie.Need-returns-3
+returns-3 c = ap told (sym (c .enum-told2 .given .1))
+
+returns-4 : tie.Need-returns-4
+returns-4 c = ap told (sym (c .before .answer2 .given .1))
+
+pub four-of-spec : {M : Type 1} → statement M
+four-of-spec =
+    tie.close
+    (tie.spec
+    enum-known-answer
+    float-to-bits-t6
+    enum-told
+    enum-told-2
+    enum-known-answer-2
+    returns
+    returns-2
+    returns-3
+    returns-4)
