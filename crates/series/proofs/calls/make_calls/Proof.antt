@@ -72,15 +72,15 @@ four-of-requires : tie.Need-four-of-requires Inv-loop μ-loop
 four-of-requires c κs = c .before .call .ensures .real
 
 slice-aggregate-put : tie.Need-slice-aggregate-put Inv-loop μ-loop
-slice-aggregate-put c = sym (c .before .before .before .before .call .ensures .long)
+slice-aggregate-put c = omega (arith, c .before .before .before .before .call .ensures .long, c .before .before .before .before .before .before .before .before .before .loop .inv .last-long)
 
 put-requires : tie.Need-put-requires Inv-loop μ-loop
 put-requires c κs =
     let by = c .before .before .before .before .call .ensures in
-    (omega (arith, room (c .before .before .before .before .before .before .before .before), by .fits), omega (arith, by .few, by .long))
+    (omega (arith, room (c .before .before .before .before .before .before .before .before), by .fits), omega (arith, by .few, by .long, c .before .before .before .before .before .before .before .before .before .loop .inv .last-long))
 
 mul-put : tie.Need-mul-put Inv-loop μ-loop
-mul-put c = record { fits = fours-fit (c .before .before .before .before .before .before .before .before .before .before .before .before) }
+mul-put c = omega (arith, fours-fit (c .before .before .before .before .before .before .before .before .before .before .before .before))
 
 -- the four numbers
 told : (c : tie.After-four-of Inv-loop μ-loop) → length (c .four-of .result) ≡ 4
