@@ -68,12 +68,6 @@ module _ {M : Type 1} {𝓤 : URA M} {H : Heap 𝓤} {A : Atoms 𝓤} {K : Type 
       use1 W (‵ (fres γ (codedHoleys R .code (heres R zs)))) (W .names .obs-res γ (codedHoleys R .code (heres R zs))) $ use1 W (‵ (finally R γ zs)) (res-finally 𝓤 H A W (named 0) κ R γ zs) $
       move t (1 ∷ []) $ drop t $ move t (1 ∷ 0 ∷ []) $ s)
 
-  -- One that is given up as it was passed.
-  pub lets-go : K → {G : Goal 𝓤 H} (R : RattleType) {κ : Lft} (x : RefT (List (R .Denot))) (vs : List Val) → Step K W (‵ (finally R (x .name) (x .now)) ∷ Γ) G (‵ (MutSlice (named 0) κ R .own x vs) ∷ Γ) G
-  lets-go t R {κ} x vs = step (λ s. fsplit t $ drop t $ fsplit t $ move t (1 ∷ []) $ drop t $
-      use1 W (‵ (fres (x .name) (codedHoleys R .code (heres R (x .now))))) (W .names .obs-res (x .name) (codedHoleys R .code (heres R (x .now)))) $
-      use1 W (‵ (finally R (x .name) (x .now))) (res-finally 𝓤 H A W (named 0) κ R (x .name) (x .now)) $ s)
-
 -- A loop that counts from 0 up to n: a turn below n goes on to the next place, and the turn at n leaves the loop.
 module _ {M : Type 1} {𝓤 : URA M} {H : Heap 𝓤} {A : Atoms 𝓤} (W : Given 𝓤 H A) (𝓣 : Tables 𝓤 H) (n : ℕ) (At : ℕ → List (Item 𝓤)) (Left : Out → SProp 𝓤) {E : Env 𝓤 H} {body : Body}
     (more : (i : ℕ) (X : SProp 𝓤) → i < n → ent 𝓤 (⋆ 𝓤 H A (At (suc i))) X → Sq W (At i) (runs (𝓣 .C) (𝓣 .Λ) E body (anyQ (afterTurn 𝓤 H X Left))))

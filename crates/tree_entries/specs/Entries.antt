@@ -1,15 +1,11 @@
--- The entries of a tree that is worked out as a list of numbers for each field, the search among entries, and what a call that is lent a slice of
--- entries answers and writes, by its capacity. Document 01, "Numbers the calculator gives": level, address, reachable and cost.
+-- The entries of a tree that is worked out as a list of numbers for each field, and the search among entries. Document 01, "Paths and the tree": level,
+-- address, reachable and cost.
 use Prim.Native.Nat.{ℕ, suc}
 use mathlib.Core.Bool.{Bool, true, false, _&&_}
 use mathlib.Core.List.{List, [], _∷_, map}
 use lib.ListN.{getD}
 use lib.Dec.{eqb, ltb}
 use Rattle.model.specs.declared.TreeEntry.{TreeEntry}
-use Rattle.model.specs.declared.TreeAnswer.{TreeAnswer}
-use Rattle.model.specs.declared.TreeAnswer.the-variants.{Built, Refused}
-use Rattle.model.specs.declared.Verdict.{Verdict}
-use Rattle.model.specs.declared.Verdict.the-variants.{Pass, Refuse}
 use Rattle.model.specs.Lists.{countFrom}
 use Rattle.tree_entries.specs.declared.Found.{Found}
 use Rattle.tree_entries.specs.declared.Found.the-variants.{At, Nothing}
@@ -42,12 +38,3 @@ findFrom level address i (e ∷ es) = atOrFurther (isEntry level address e) i (f
 -- place i of n, or none where i is n
 abbrev pub foundBelow : ℕ → ℕ → Found
 foundBelow i n = atOrFurther (ltb i n) i Nothing
-
--- what is answered for a tree of n entries and this tally, and what is written of it, where its capacity is judged so
-abbrev pub answerOf : Verdict → ℕ → ℕ → TreeAnswer
-answerOf (Refuse r) n tally = Refused r
-answerOf Pass n tally = Built n tally
-
-abbrev pub writtenOf : Verdict → List TreeEntry → List TreeEntry
-writtenOf (Refuse r) entries = []
-writtenOf Pass entries = entries

@@ -2,24 +2,19 @@
 // "in a lent list of such records".) The functions over the lent slice are proved by a walk of their MIR, by hand; what they
 // call is covered.
 use model::NodeAddress;
-use model::Refusal;
-use model::TreeAnswer;
 use model::TreeEntry;
 ghost use mathlib.Core.Path.{_≡_};
 ghost use Prim.Native.Nat.{_<_, _≤_};
 ghost use lib.ListN.{length};
 ghost use Rattle.model.specs.Lists.{over};
-ghost use Rattle.model.specs.Calls.{roomVerdict};
-ghost use Rattle.tree_entries.specs.Entries.{entryAt, entriesOf, isEntry, findFrom, foundBelow, answerOf, writtenOf};
+ghost use Rattle.tree_entries.specs.Entries.{entryAt, entriesOf, isEntry, findFrom, foundBelow};
 
-// A tree as it is worked out: for each field of its entries the numbers in their order, of which the first `count` count.
+// A tree as it is worked out: for each field of its entries the numbers in their order.
 pub struct TreeTable {
     pub level: [u32; 241],
     pub address: [u32; 241],
     pub reachable: [u8; 241],
     pub cost: [u32; 241],
-    pub count: usize,
-    pub tally: u32,
 }
 
 // The place of an entry in the slice.
@@ -76,37 +71,4 @@ pub fn find(entries: &[TreeEntry], level: u32, address: NodeAddress) -> Found
         at += 1;
     }
     found_at(at, entries.len())
-}
-
-fn too_small() -> TreeAnswer
-    ensures { λ r. ⌜ r ≡ TreeAnswer.Refused (record { number = 34; place = 0 }) ⌝ }
-{
-    TreeAnswer::Refused(Refusal {
-        number: 34,
-        place: 0,
-    })
-}
-
-fn built(tree: TreeTable) -> TreeAnswer
-    requires { ⌜ tree .count ≤ 241 ⌝ }
-    ensures { λ r. ⌜ r ≡ TreeAnswer.Built (tree .count) (tree .tally) ⌝ }
-{
-    TreeAnswer::Built {
-        entries: tree.count as u32,
-        tally: tree.tally,
-    }
-}
-
-// The whole tree into the lent slice, where it has the capacity; else nothing, and the refusal.
-pub fn put(entries: &mut [TreeEntry], tree: TreeTable) -> TreeAnswer
-    requires { ⌜ tree .count ≤ 241 ⌝ }
-    ensures { λ r. ⌜ (r ≡ answerOf (roomVerdict (tree .count) (length (now (entries .entry)))) (tree .count) (tree .tally))
-        × (now (entries .exit) ≡ over (writtenOf (roomVerdict (tree .count) (length (now (entries .entry)))) (entriesOf (tree .count) (tree .level) (tree .address) (tree .reachable) (tree .cost))) (now (entries .entry))) ⌝ }
-{
-    let n = tree.count;
-    if entries.len() < n {
-        return too_small();
-    }
-    fill(entries, tree, n);
-    built(tree)
 }
