@@ -1,0 +1,75 @@
+-- `solve` meets its contract: what the checks refuse is refused, and what they accept is the query's search.
+use mathlib.Core.Path.{_≡_, sym, subst, _∙_}
+use mathlib.Core.List.{List}
+use borrow.Author.Needs.{needs}
+use Rattle.model.specs.declared.TreeEntry.{TreeEntry}
+use Rattle.model.specs.Profile.{version1}
+use Rattle.model.specs.Request.{Request}
+use Rattle.model.specs.Answers.{refused3}
+use Rattle.model.specs.Calls.{Outcome, nothing, buildTree}
+use Rattle.request.specs.Query.{stopsOf, searchFor}
+use Rattle.request.specs.Checked.{requestOf}
+use Rattle.request.proofs.Requests.{refused-request, accepted-request, search-request}
+use Rattle.tree.specs.declared.Solved.{Solved}
+use Rattle.tree.specs.Solved.{SolvedBy}
+use Rattle.tree.proofs.Outcomes.{refusal, refused-outcome, tree-refused, tree-accepted}
+use Rattle.tree.proofs.solve.Statement.{statement}
+use Rattle.tree.proofs.solve.Tie as tie
+
+abbrev request : tie.Start → Request
+request c = requestOf (c .args .profile .now) (c .args .ingress .0) (c .args .source .0) (c .args .destination .0) (c .args .include .now) (c .args .exclude .now) (c .args .limits)
+
+check-request-requires : tie.Need-check-request-requires
+check-request-requires c κs = search needs
+
+enum-known-verdict : tie.Need-enum-known-verdict
+enum-known-verdict c = search needs
+
+refused-requires : tie.Need-refused-requires
+refused-requires c κs = search needs
+
+returns : tie.Need-returns
+returns c =
+    let start = c .before .before .before .before .before .before .before .before in
+    let a = start .args in
+    let is = c .before .before .before .before .check-request .ensures in
+    let r = c .before .before .verdict .given .0 .0 in
+    let why = refused-request (a .profile .now) (a .ingress) (a .source) (a .destination) (a .include .now) (a .exclude .now) (a .limits) (c .before .before .before .before .check-request .result) is r (c .before .before .verdict .given .1) in
+    subst (λ (o : Outcome TreeEntry). SolvedBy o (a .room) (a .addresses .now) (a .reaches .now) (a .starts .now) (c .refused .result)) (sym (tree-refused (request start) (a .room) r why))
+    (subst (λ (x : Solved). SolvedBy (nothing (refused3 r)) (a .room) (a .addresses .now) (a .reaches .now) (a .starts .now) x) (sym (c .refused .ensures))
+    (refused-outcome r (a .room) (a .addresses .now) (a .reaches .now) (a .starts .now)))
+
+enum-told : tie.Need-enum-told
+enum-told c = search needs
+
+solve-query-requires : tie.Need-solve-query-requires
+solve-query-requires c κs =
+    let start = c .before .before .before .before .before .before .before .before .before .before in
+    (c .before .before .before .before .before .before .check-request .ensures .ready (c .before .before .before .before .enum-told .given .1), start .pre)
+
+returns-2 : tie.Need-returns-2
+returns-2 c =
+    let start = c .before .before .before .before .before .before .before .before .before .before .before in
+    let a = start .args in
+    let r = c .before .before .before .before .before .before .before .check-request .result in
+    let is = c .before .before .before .before .before .before .before .check-request .ensures in
+    let passes = c .before .before .before .before .before .enum-told .given .1 in
+    let l = c .solve-query .last .1 .1 .1 .1 in
+    subst (λ (o : Outcome TreeEntry). SolvedBy o (a .room) (l .0) (l .1 .0) (l .1 .1 .0) (c .solve-query .result))
+    (sym
+    (tree-accepted (request start) (a .room) (stopsOf (r .query)) (searchFor version1 (a .profile .now) (a .exclude .now) (r .query))
+    (accepted-request (a .profile .now) (a .ingress) (a .source) (a .destination) (a .include .now) (a .exclude .now) (a .limits) r is passes)
+    (search-request (a .profile .now) (a .ingress) (a .source) (a .destination) (a .include .now) (a .exclude .now) (a .limits) r is)))
+    (c .solve-query .ensures)
+
+pub solve-spec : {M : Type 1} → statement M
+solve-spec =
+    tie.close
+    (tie.spec
+    check-request-requires
+    enum-known-verdict
+    refused-requires
+    returns
+    enum-told
+    solve-query-requires
+    returns-2)
