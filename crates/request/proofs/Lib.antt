@@ -1,3 +1,4 @@
 pub mod Verdicts
 pub mod Queries
 pub mod Requests
+pub mod Bits

@@ -5,6 +5,7 @@ use refusal::refuse;
 ghost use mathlib.Core.Path.{_≡_};
 ghost use Rattle.model.specs.Floats.{inRange};
 ghost use Rattle.model.specs.Request.{limitsVerdict};
+ghost use Rattle.request.specs.Bits.{floatOfBits};
 
 // The bits lie below 7F800000: not negative, finite, a number. A NaN is told first, since its bits are undefined.
 fn in_range(x: f32) -> bool
@@ -29,4 +30,14 @@ pub fn limits_verdict(limits: Limits) -> Verdict
         }
     }
     Verdict::Pass
+}
+
+// The float of these bits; infinity for all from 7F800000 up, which are out of range like it. (A NaN's bits make no float.)
+pub fn float_of(bits: u32) -> f32
+    ensures { λ r. ⌜ r ≡ floatOfBits bits ⌝ }
+{
+    if bits < 0x7F800000 {
+        return f32::from_bits(bits);
+    }
+    f32::from_bits(0x7F800000)
 }
