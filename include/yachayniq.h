@@ -16,6 +16,7 @@
 #ifndef YACHAYNIQ_H
 #define YACHAYNIQ_H
 
+#include <stdbool.h>
 #include <stddef.h>
 #include <stdint.h>
 
@@ -138,6 +139,69 @@ uint32_t yq_write_list(const uint8_t *profile, size_t profile_count,
                        const uint32_t *pins, size_t pins_count,
                        uint8_t *out, size_t out_count,
                        uint32_t numbers[2]);
+
+/*
+ * Builds the backward tree of a request (the virtual shortest path tree of RFC
+ * 5441): for each entry node of each domain of the sequence, whether the
+ * destination can be reached from it, and the least cost of doing so. The
+ * bound isn't applied here.
+ *
+ *   profile         a profile file, as yq_check_profile takes it
+ *   ingress         the domain that the sequence starts in, as an index into
+ *                   the profile's domain records, from 0
+ *   source          the node that a path starts at, as a number
+ *   destination     the node that it ends at, as a number
+ *   include         an include list, as yq_read_include takes it
+ *   exclude         an exclude list: the subobjects of an XRO (RFC 5521),
+ *                   without the four flag bytes before them
+ *   bandwidth_bits  the bandwidth asked for: the bits of a 32-bit float
+ *   bound_counts    whether the cost bound counts
+ *   bound_bits      the cost bound: the bits of a 32-bit float; not looked at
+ *                   where it doesn't count
+ *
+ * The four lent buffers have an element for each entry, domain by domain in the
+ * order of the sequence, in each domain by ascending address, so 241 elements
+ * each are always enough; their counts may differ:
+ *
+ *   level      the place of the entry's domain in the sequence, from 0
+ *   address    the node: at level 0 the source alone, else an entry node of the
+ *              domain
+ *   reachable  1 where the destination can be reached, else 0
+ *   cost       the least cost of a way to the destination; 0 where there is none
+ *
+ * Returns the first of these, in the order in which the checks are made:
+ *
+ *    10 to 19  what yq_check_profile finds wrong with the profile
+ *    20  ingress not below the profile's domain count
+ *    21  bits of the bandwidth, then of a bound that counts, from 7F800000 up
+ *    22  include list, then exclude list, over 1,024 bytes
+ *    23 to 27  form of the include list, as yq_read_include finds it
+ *    23 to 26  form of the exclude list: the same, but its top bit (X) may be
+ *        set, and a type 1 has a prefix length of 0 to 32 and the attribute 1
+ *        (else 26)
+ *    28 to 32  meaning of the include list, as yq_read_include finds it
+ *    34  a buffer has fewer elements than the tree has entries
+ *     0  the tree is in the buffers
+ *
+ * numbers[0]  place: from 10 to 19 as yq_check_profile stores it; on 21 0 for
+ *             the bandwidth and 1 for the bound; on 22 0 for the include list
+ *             and 1 for the exclude list; from 23 to 32 the offset in the list
+ *             of the subobject that is refused; else 0
+ * numbers[1]  on 0 how many entries the tree has, 1 to 241; else 0
+ * numbers[2]  on 0 how many hop records lead from each domain of the sequence
+ *             to the next, and inside the last one; else 0
+ */
+uint32_t yq_tree(const uint8_t *profile, size_t profile_count,
+                 uint16_t ingress, uint32_t source, uint32_t destination,
+                 const uint8_t *include, size_t include_count,
+                 const uint8_t *exclude, size_t exclude_count,
+                 uint32_t bandwidth_bits, bool bound_counts,
+                 uint32_t bound_bits,
+                 uint32_t *level, size_t level_count,
+                 uint32_t *address, size_t address_count,
+                 uint8_t *reachable, size_t reachable_count,
+                 uint32_t *cost, size_t cost_count,
+                 uint32_t numbers[3]);
 
 #ifdef __cplusplus
 }

@@ -2,6 +2,7 @@
 //! one line for each call and input.
 
 mod race;
+mod tree;
 
 use race::race;
 use reference::generate;
@@ -11,6 +12,7 @@ fn main() {
     check_profile();
     read_include();
     write_list();
+    tree::tree();
 }
 
 fn check_profile() {

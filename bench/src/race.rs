@@ -14,21 +14,38 @@ const ROUND: Duration = Duration::from_millis(2);
 /// same answer.
 pub fn race<A: PartialEq + Debug>(name: &str, library: impl Fn() -> A, reference: impl Fn() -> A) {
     assert_eq!(library(), reference(), "{name}: answers");
-    let calls = calls_in_a_round(&library).max(calls_in_a_round(&reference));
-    let mut library_times = Vec::with_capacity(ROUNDS);
-    let mut reference_times = Vec::with_capacity(ROUNDS);
-    // In turns, so that both meet the same load of the machine.
-    for _ in 0..ROUNDS {
-        library_times.push(time(&library, calls));
-        reference_times.push(time(&reference, calls));
-    }
-    let (ours, theirs) = (median(library_times), median(reference_times));
+    let (ours, theirs, calls) = in_turns(&library, &reference);
     println!(
         "{name}: library {:.2} us, reference {:.2} us, ratio {:.2} (median of {ROUNDS} rounds of {calls} calls)",
         ours * 1e6,
         theirs * 1e6,
         ours / theirs
     );
+}
+
+/// Prints the time of a call that does a part of what another does, beside the
+/// other's.
+pub fn share<A, B>(name: &str, part: impl Fn() -> A, whole: impl Fn() -> B) {
+    let (part, whole, calls) = in_turns(&part, &whole);
+    println!(
+        "{name}: {:.2} us of {:.2} us, ratio {:.2} (median of {ROUNDS} rounds of {calls} calls)",
+        part * 1e6,
+        whole * 1e6,
+        part / whole
+    );
+}
+
+/// Seconds for one call of each, and how many calls a round had.
+fn in_turns<A, B>(one: &impl Fn() -> A, other: &impl Fn() -> B) -> (f64, f64, u32) {
+    let calls = calls_in_a_round(one).max(calls_in_a_round(other));
+    let mut times = Vec::with_capacity(ROUNDS);
+    let mut other_times = Vec::with_capacity(ROUNDS);
+    // In turns, so that both meet the same load of the machine.
+    for _ in 0..ROUNDS {
+        times.push(time(one, calls));
+        other_times.push(time(other, calls));
+    }
+    (median(times), median(other_times), calls)
 }
 
 /// Warms up and finds how many calls fill a round.

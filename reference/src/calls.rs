@@ -110,7 +110,7 @@ pub fn next(request: &Request, given: &[u32], path: &mut [u32], numbers: &mut [u
 }
 
 /// Every lent buffer has the capacity (document 01's "room") that is needed.
-fn enough_room(lent: &[usize], needed: usize) -> Result<(), NotDone> {
+pub fn enough_room(lent: &[usize], needed: usize) -> Result<(), NotDone> {
     if lent.iter().all(|&capacity| capacity >= needed) {
         Ok(())
     } else {

@@ -103,19 +103,19 @@ fn least_cost(
         .min()
 }
 
-fn may_enter(question: &Question, i: usize, address: u32) -> bool {
+pub fn may_enter(question: &Question, i: usize, address: u32) -> bool {
     let stop = question.stops[i];
     let entry_fits = stop.entry.is_none_or(|entry| entry == address);
     entry_fits && !question.exclusion.domain(stop.domain) && !question.exclusion.address(address)
 }
 
 /// Nothing is left to pay at the destination, unless it is excluded.
-fn arrived(question: &Question, address: u32) -> Option<u32> {
+pub fn arrived(question: &Question, address: u32) -> Option<u32> {
     let there = address == question.destination && !question.exclusion.address(address);
     there.then_some(0)
 }
 
-fn least_in(level: &[Entry], address: u32) -> Option<u32> {
+pub fn least_in(level: &[Entry], address: u32) -> Option<u32> {
     let index = level
         .binary_search_by_key(&address, |entry| entry.address)
         .ok()?;

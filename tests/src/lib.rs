@@ -5,7 +5,11 @@
 
 pub mod compare;
 pub mod lists;
+mod request;
+pub mod rows;
 pub mod stack;
+pub mod tree;
+pub mod wrong;
 
 /// Profiles written out by hand, shared with the reference's own tests.
 #[path = "../../reference/tests/common/mod.rs"]

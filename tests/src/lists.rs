@@ -1,4 +1,4 @@
-//! Include lists: their subobjects written out by hand, and one reading or
+//! Domain lists: their subobjects written out by hand, and one reading or
 //! writing given to both programs.
 
 use crate::compare::{compare, Answer, Case, Lent};
@@ -29,6 +29,18 @@ pub fn is_is(area: &[u8]) -> Vec<u8> {
 /// An entry constraint: an address with prefix length 32.
 pub fn entry(node: u32) -> Vec<u8> {
     [&[1, 8], &node.to_be_bytes()[..], &[32, 0]].concat()
+}
+
+/// An excluded node, or all nodes that share its first `length` bits.
+pub fn excluded(node: u32, length: u8) -> Vec<u8> {
+    [&[1, 8], &node.to_be_bytes()[..], &[length, 1]].concat()
+}
+
+/// The subobject with its first bit set: L in an include list, X in an exclude
+/// list.
+pub fn marked(mut piece: Vec<u8>) -> Vec<u8> {
+    piece[0] |= 0x80;
+    piece
 }
 
 /// What `read_include` is lent: domains, marks of entry constraints, nodes.

@@ -5,8 +5,11 @@ use Prim.Native.Nat.{ℕ}
 use lib.ListN.{length}
 use Rattle.model.specs.Lists.{over}
 use Rattle.model.specs.Sequence.{Stop}
-use Rattle.model.specs.Calls.{readInclude, writeList, pinMark, pinNode}
+use Rattle.model.specs.Request.{Request}
+use Rattle.model.specs.Calls.{readInclude, writeList, buildTree, pinMark, pinNode}
 use Rattle.domain_list.specs.ReadInclude.{least3}
+use Rattle.tree.specs.Fields.{level, address, mark, cost}
+use Rattle.tree.specs.Solved.{least4}
 
 -- the number returned, the other numbers stored, and each buffer with its part of the sequence at its start
 pub record ReadExport (profile : List ℕ) (ingress : ℕ) (list domains marks nodes : List ℕ) (r : ℕ) (numbers domains′ marks′ nodes′ : List ℕ) : Type 0 where
@@ -21,3 +24,12 @@ pub record WriteExport (profile indexes marks nodes out : List ℕ) (r : ℕ) (n
   pub answer : r ≡ (writeList profile indexes marks nodes (length out)) .numbers .answer
   pub others : numbers ≡ (writeList profile indexes marks nodes (length out)) .numbers .others
   pub in-out : out′ ≡ over ((writeList profile indexes marks nodes (length out)) .written) out
+
+-- the number returned, the other numbers stored, and each buffer with its field of the tree's entries at its start
+pub record TreeExport (request : Request) (levels addresses marks costs : List ℕ) (r : ℕ) (numbers levels′ addresses′ marks′ costs′ : List ℕ) : Type 0 where
+  pub answer : r ≡ (buildTree request (least4 levels addresses marks costs)) .numbers .answer
+  pub others : numbers ≡ (buildTree request (least4 levels addresses marks costs)) .numbers .others
+  pub in-levels : levels′ ≡ over (map level ((buildTree request (least4 levels addresses marks costs)) .written)) levels
+  pub in-addresses : addresses′ ≡ over (map address ((buildTree request (least4 levels addresses marks costs)) .written)) addresses
+  pub in-marks : marks′ ≡ over (map mark ((buildTree request (least4 levels addresses marks costs)) .written)) marks
+  pub in-costs : costs′ ≡ over (map cost ((buildTree request (least4 levels addresses marks costs)) .written)) costs

@@ -2,13 +2,20 @@
 use domain_list::read::read_include;
 use list_writer::writer::write_list;
 use model::DomainIndex;
+use model::Limits;
+use model::NodeAddress;
 use model::ProfileAnswer;
 use model::ReadAnswer;
+use model::TreeAnswer;
 use model::WriteAnswer;
 use profile::check_profile;
+use request::floats::float_of;
+use tree::tree_numbers;
 ghost use mathlib.Core.Path.{_≡_};
 ghost use Rattle.model.specs.Calls.{checkProfile};
-ghost use Rattle.calculator.specs.Exports.{ReadExport, WriteExport};
+ghost use Rattle.calculator.specs.Exports.{ReadExport, WriteExport, TreeExport};
+ghost use Rattle.request.specs.Bits.{limitsOfBits};
+ghost use Rattle.request.specs.Checked.{requestOf};
 
 // numbers: place
 #[no_mangle]
@@ -81,6 +88,65 @@ pub extern "C" fn yq_write_list(
         }
         WriteAnswer::Refused(r) => {
             *numbers = [r.place, 0];
+            r.number
+        }
+    }
+}
+
+// The limits of a request from their bits.
+fn limits_of(bandwidth_bits: u32, bound_counts: bool, bound_bits: u32) -> Limits
+    ensures { λ r. ⌜ r ≡ limitsOfBits «bandwidth_bits» «bound_counts» «bound_bits» ⌝ }
+{
+    let bandwidth = float_of(bandwidth_bits);
+    let bound = float_of(bound_bits);
+    Limits {
+        bandwidth,
+        bound,
+        bounded: bound_counts,
+    }
+}
+
+// numbers: place, how many entries, tally
+#[no_mangle]
+pub extern "C" fn yq_tree(
+    profile: &[u8],
+    ingress: u16,
+    source: u32,
+    destination: u32,
+    include: &[u8],
+    exclude: &[u8],
+    bandwidth_bits: u32,
+    bound_counts: bool,
+    bound_bits: u32,
+    level: &mut [u32],
+    address: &mut [u32],
+    reachable: &mut [u8],
+    cost: &mut [u32],
+    numbers: &mut [u32; 3],
+) -> u32
+    ensures { λ r. ⌜ TreeExport (requestOf (now (profile .entry)) ingress source destination (now (include .entry)) (now (exclude .entry)) (limitsOfBits «bandwidth_bits» «bound_counts» «bound_bits»)) (now (level .entry)) (now (address .entry)) (now (reachable .entry)) (now (cost .entry)) r (now (numbers .exit)) (now (level .exit)) (now (address .exit)) (now (reachable .exit)) (now (cost .exit)) ⌝ }
+{
+    let limits = limits_of(bandwidth_bits, bound_counts, bound_bits);
+    let answer = tree_numbers(
+        profile,
+        DomainIndex(ingress),
+        NodeAddress(source),
+        NodeAddress(destination),
+        include,
+        exclude,
+        limits,
+        level,
+        address,
+        reachable,
+        cost,
+    );
+    match answer {
+        TreeAnswer::Built { entries, tally } => {
+            *numbers = [0, entries, tally];
+            0
+        }
+        TreeAnswer::Refused(r) => {
+            *numbers = [r.place, 0, 0];
             r.number
         }
     }

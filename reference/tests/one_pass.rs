@@ -1,0 +1,39 @@
+//! The quick tree against the other, on everything that both leave.
+
+use reference::generate::{self, RequestCase};
+use reference::{one_pass_tree, tree, Request};
+
+type Call = fn(&Request, &mut [u32], &mut [u32], &mut [u8], &mut [u32], &mut [u32; 3]) -> u32;
+
+/// The number, and the case with the buffers as the call leaves them.
+fn left(case: &RequestCase, call: Call) -> (u32, [u32; 3], RequestCase) {
+    let (mut left, mut numbers) = (case.clone(), [7; 3]);
+    let number = call(
+        &case.request(),
+        &mut left.level,
+        &mut left.address,
+        &mut left.reachable,
+        &mut left.cost,
+        &mut numbers,
+    );
+    (number, numbers, left)
+}
+
+#[test]
+fn both_trees_are_the_same() {
+    let generated = (0..12_000).map(generate::request_case);
+    let large = (0..20).map(generate::largest_request);
+    let mut built = 0;
+    for (index, case) in generated.chain(large).enumerate() {
+        let (number, numbers, ours) = left(&case, one_pass_tree);
+        let (same, again, theirs) = left(&case, tree);
+        assert_eq!((number, numbers), (same, again), "case {index}");
+        assert_eq!(
+            (ours.level, ours.address, ours.reachable, ours.cost),
+            (theirs.level, theirs.address, theirs.reachable, theirs.cost),
+            "case {index}"
+        );
+        built += usize::from(number == 0);
+    }
+    assert!(built > 5_000, "{built} trees");
+}
