@@ -23,6 +23,9 @@ module _ {s : List ℕ} {at : ℕ} (r : Readable s at) where
   pub room-8 : (t : ℕ) → typeAt s at ≡ t → lengthOf t (areaLengthAt s at) ≡ 8 → at + 8 ≤ length s
   room-8 t e n = let l = long-by t e ∙ n in let i = r .inside in omega arith
 
+  pub long-1 : typeAt s at ≡ 1 → lengthAt s at ≡ 8
+  long-1 e = long-by 1 e ∙ length-1 (areaLengthAt s at)
+
   pub room-1 : typeAt s at ≡ 1 → at + 8 ≤ length s
   room-1 e = room-8 1 e (length-1 (areaLengthAt s at))
 

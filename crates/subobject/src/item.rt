@@ -68,11 +68,14 @@ fn named_at(list: &[u8], at: usize) -> Named
     Named::System { asn }
 }
 
-// Where the subobject after the one at an offset starts.
+// Where the subobject after the one at an offset starts. Type 1 has the same length always; to know it without a look makes a long list faster.
 pub(crate) fn next_at(list: &[u8], at: usize) -> usize
     requires { ⌜ Readable (now list) at ⌝ }
     ensures { λ r. ⌜ r ≡ at + lengthAt (now (list .entry)) at ⌝ }
 {
+    if list[at] % 128 == 1 {
+        return at + 8;
+    }
     at + wide(list[at + 1])
 }
 
