@@ -23,10 +23,13 @@ fn bits_after(bits: u8) -> u32
     32 - bits as u32
 }
 
-// The node's bits before the prefix length are those of the address.
+// The node's bits before the prefix length are those of the address. A whole address, the common case, needs no shift.
 fn in_prefix(address: NodeAddress, bits: u8, node: NodeAddress) -> bool
     ensures { λ r. ⌜ r ≡ inPrefix (address .0) bits (node .0) ⌝ }
 {
+    if bits == 32 {
+        return node.0 == address.0;
+    }
     let after = bits_after(bits);
     (node.0 as u64) >> after == (address.0 as u64) >> after
 }
