@@ -8,8 +8,8 @@ use Rattle.model.specs.Sequence.{Stop}
 use Rattle.model.specs.Request.{Request}
 use Rattle.model.specs.Calls.{readInclude, writeList, buildTree, pinMark, pinNode}
 use Rattle.domain_list.specs.ReadInclude.{least3}
-use Rattle.tree.specs.Fields.{level, address, mark, cost}
-use Rattle.tree.specs.Solved.{least4}
+use Rattle.tree_fields.specs.Fields.{level, address, mark, cost}
+use Rattle.tree.specs.Trees.{least4}
 
 -- the number returned, the other numbers stored, and each buffer with its part of the sequence at its start
 pub record ReadExport (profile : List ℕ) (ingress : ℕ) (list domains marks nodes : List ℕ) (r : ℕ) (numbers domains′ marks′ nodes′ : List ℕ) : Type 0 where

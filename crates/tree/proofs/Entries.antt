@@ -12,8 +12,8 @@ use Rattle.model.specs.declared.TreeEntry.{TreeEntry}
 use Rattle.model.specs.Lists.{over, countFrom}
 use Rattle.laws.proofs.ProfileLists.{length-map-countFrom, getD-map-countFrom}
 use Rattle.tree_entries.specs.Entries.{entryAt, entriesOf}
-use Rattle.tree.specs.Fields.{markIf, level, address, mark, cost, markOf, costOf, levelsOf, Places}
-use Rattle.tree.specs.Solved.{Held}
+use Rattle.tree_fields.specs.Fields.{markIf, level, address, mark, cost, markOf, costOf, levelsOf, Places}
+use Rattle.tree_fields.specs.Solved.{Held}
 
 abbrev none : TreeEntry
 none = record { level = 0; address = record { 0 = 0 }; reachable = false; cost = 0 }

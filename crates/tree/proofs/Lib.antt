@@ -1,4 +1,1 @@
-pub mod Fields
-pub mod Whole
-pub mod Outcomes
 pub mod Entries

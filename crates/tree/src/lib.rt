@@ -1,137 +1,28 @@
-// The call `tree`: the checks of a whole request, the backward tree, and its entries in what is lent. (Document 01, "Paths and the tree".)
-use crate::put::put_addresses;
-use crate::put::put_costs;
-use crate::put::put_levels;
-use crate::put::put_marks;
+// The call `tree`: the backward tree of a request, its entries in what is lent. (Document 01, "Paths and the tree".)
 use model::DomainIndex;
 use model::Limits;
 use model::NodeAddress;
-use model::Refusal;
 use model::TreeAnswer;
 use model::TreeEntry;
-use model::Verdict;
-use records::layout::first_version;
-use request::Query;
-use request::check_request;
 use tree_entries::TreeTable;
 use tree_entries::fill;
-use vspt::work_out;
+use tree_fields::put::put_addresses;
+use tree_fields::put::put_costs;
+use tree_fields::put::put_levels;
+use tree_fields::put::put_marks;
+use tree_fields::solve;
 ghost use mathlib.Core.Path.{_≡_};
-ghost use Prim.Native.Nat.{_≤_, min};
+ghost use Prim.Native.Nat.{min};
 ghost use lib.ListN.{length};
-ghost use Rattle.model.specs.Profile.{version1};
-ghost use Rattle.model.specs.Lists.{over};
-ghost use Rattle.model.specs.Answers.{numbersOfTree};
-ghost use Rattle.model.specs.Calls.{buildTree, answerTree, roomVerdict};
-ghost use Rattle.model.specs.Tree.{tree};
+ghost use Rattle.model.specs.Calls.{buildTree};
 ghost use Rattle.request.specs.Checked.{requestOf};
-ghost use Rattle.request.specs.Query.{searchFor, Ready};
-ghost use Rattle.tree.specs.Solved.{SolvedBy, BuiltBy, least4, TreeIn};
-
-pub mod put;
-
-// A tree in numbers: the answer, how many entries are to be written and how many places they have; nothing on a refusal.
-pub struct Solved {
-    pub answer: TreeAnswer,
-    pub count: usize,
-    pub places: usize,
-}
+ghost use Rattle.tree.specs.Trees.{BuiltBy, least4, TreeIn, TreeLent};
 
 // A tree by value: the answer, and the entries to be written, `count` of them.
 pub struct Built {
     pub answer: TreeAnswer,
     pub count: usize,
     pub table: TreeTable,
-}
-
-fn refused(r: Refusal) -> Solved
-    ensures { λ x. ⌜ x ≡ record { answer = TreeAnswer.Refused r; count = 0; places = 0 } ⌝ }
-{
-    Solved {
-        answer: TreeAnswer::Refused(r),
-        count: 0,
-        places: 0,
-    }
-}
-
-// The tree of a query, and whether there is room for it.
-fn solve_query(
-    profile: &[u8],
-    exclude: &[u8],
-    q: Query,
-    room: usize,
-    addresses: &mut [u32; 242],
-    reaches: &mut [u32; 242],
-    starts: &mut [usize; 18],
-) -> Solved
-    requires { ⌜ Ready version1 (now profile) (now exclude) q ⌝ }
-    requires { ⌜ (length (now addresses) ≡ 242) × (length (now reaches) ≡ 242) × (length (now starts) ≡ 18) ⌝ }
-    ensures { λ r. ⌜ SolvedBy (answerTree (roomVerdict (length (tree (searchFor version1 (now (profile .entry)) (now (exclude .entry)) q))) room) (searchFor version1 (now (profile .entry)) (now (exclude .entry)) q)) room (now (addresses .exit)) (now (reaches .exit)) (now (starts .exit)) r ⌝ }
-{
-    let mut firsts = [0usize; 16];
-    let mut lasts = [0usize; 16];
-    let layout = first_version();
-    let examined = work_out(
-        profile,
-        layout,
-        exclude,
-        q,
-        addresses,
-        reaches,
-        starts,
-        &mut firsts,
-        &mut lasts,
-    );
-    let places = q.count;
-    let count = starts[places];
-    if room < count {
-        return refused(Refusal {
-            number: 34,
-            place: 0,
-        });
-    }
-    Solved {
-        answer: TreeAnswer::Built {
-            entries: count as u32,
-            tally: examined as u32,
-        },
-        count,
-        places,
-    }
-}
-
-// The tree of a request in numbers: every check before 34, the tree, and 34.
-pub fn solve(
-    profile: &[u8],
-    ingress: DomainIndex,
-    source: NodeAddress,
-    destination: NodeAddress,
-    include: &[u8],
-    exclude: &[u8],
-    limits: Limits,
-    room: usize,
-    addresses: &mut [u32; 242],
-    reaches: &mut [u32; 242],
-    starts: &mut [usize; 18],
-) -> Solved
-    requires { ⌜ (length (now addresses) ≡ 242) × (length (now reaches) ≡ 242) × (length (now starts) ≡ 18) ⌝ }
-    ensures { λ r. ⌜ SolvedBy (buildTree (requestOf (now (profile .entry)) (ingress .0) (source .0) (destination .0) (now (include .entry)) (now (exclude .entry)) limits) room) room (now (addresses .exit)) (now (reaches .exit)) (now (starts .exit)) r ⌝ }
-{
-    let checked = check_request(
-        profile,
-        ingress,
-        source,
-        destination,
-        include,
-        exclude,
-        limits,
-    );
-    let verdict = checked.verdict;
-    if let Verdict::Refuse(r) = verdict {
-        return refused(r);
-    }
-    let q = checked.query;
-    solve_query(profile, exclude, q, room, addresses, reaches, starts)
 }
 
 // The lesser of two counts.
@@ -238,4 +129,31 @@ pub fn build(
             cost,
         },
     }
+}
+
+// The tree in a lent slice of entries. On a refusal the slice keeps what it held.
+pub fn tree(
+    profile: &[u8],
+    ingress: DomainIndex,
+    source: NodeAddress,
+    destination: NodeAddress,
+    include: &[u8],
+    exclude: &[u8],
+    limits: Limits,
+    entries: &mut [TreeEntry],
+) -> TreeAnswer
+    ensures { λ r. ⌜ TreeLent (buildTree (requestOf (now (profile .entry)) (ingress .0) (source .0) (destination .0) (now (include .entry)) (now (exclude .entry)) limits) (length (now (entries .entry)))) (now (entries .entry)) r (now (entries .exit)) ⌝ }
+{
+    let built = build(
+        profile,
+        ingress,
+        source,
+        destination,
+        include,
+        exclude,
+        limits,
+        entries.len(),
+    );
+    fill(entries, built.table, built.count);
+    built.answer
 }

@@ -8,7 +8,8 @@ use lib.ListN.{length}
 use Rattle.model.specs.Request.{Request}
 use Rattle.model.specs.Calls.{buildTree}
 use Rattle.request.specs.Checked.{requestOf}
-use Rattle.tree.specs.Solved.{SolvedBy, least4}
+use Rattle.tree_fields.specs.Solved.{SolvedBy}
+use Rattle.tree.specs.Trees.{least4}
 use Rattle.tree.proofs.Entries.{places-within, levels-over, addresses-over, marks-over, costs-over}
 use Rattle.tree.proofs.tree_numbers.Statement.{statement}
 use Rattle.tree.proofs.tree_numbers.Tie as tie

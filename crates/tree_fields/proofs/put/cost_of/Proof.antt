@@ -2,8 +2,8 @@
 use mathlib.Core.Path.{sym, ap}
 use Rattle.laws.proofs.Reach.{Reach}
 use Rattle.vspt.proofs.Codes.{reach-none, reach-some}
-use Rattle.tree.proofs.put.cost_of.Statement.{statement}
-use Rattle.tree.proofs.put.cost_of.Tie as tie
+use Rattle.tree_fields.proofs.put.cost_of.Statement.{statement}
+use Rattle.tree_fields.proofs.put.cost_of.Tie as tie
 
 returns : tie.Need-returns
 returns c = sym (ap (λ (x : Reach). x .cost) (reach-none (c .before .args .code) (c .if1 .taken)))

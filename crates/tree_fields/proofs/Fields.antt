@@ -10,7 +10,7 @@ use Rattle.model.specs.Lists.{countFrom, each, over}
 use Rattle.laws.proofs.Lists.{over-length, over-take, over-drop, over-nothing}
 use Rattle.levels.proofs.Blocks.{each-next}
 use Rattle.domain_list.proofs.Copies.{Copied, copied-none, copied-long, copied-more}
-use Rattle.tree.specs.Fields.{levelsAt, levelsOf, Places}
+use Rattle.tree_fields.specs.Fields.{levelsAt, levelsOf, Places}
 
 -- ---- a list of n numbers of which the code writes one after the other
 

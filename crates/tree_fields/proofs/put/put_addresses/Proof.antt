@@ -7,9 +7,9 @@ use borrow.Author.Needs.{needs}
 use lib.ListN.{length, take}
 use Rattle.model.specs.Lists.{over}
 use Rattle.domain_list.proofs.Copies.{Copied, copied-none}
-use Rattle.tree.proofs.Fields.{part-long, part-more, part-whole, map-same}
-use Rattle.tree.proofs.put.put_addresses.Statement.{statement}
-use Rattle.tree.proofs.put.put_addresses.Tie as tie
+use Rattle.tree_fields.proofs.Fields.{part-long, part-more, part-whole, map-same}
+use Rattle.tree_fields.proofs.put.put_addresses.Statement.{statement}
+use Rattle.tree_fields.proofs.put.put_addresses.Tie as tie
 
 abbrev f : ℕ → ℕ
 f x = x

@@ -6,9 +6,9 @@ use native.Mathlib.Omega.{arith}
 use borrow.Author.Needs.{needs}
 use lib.ListN.{length, replicate}
 use lib.Seq.{paste}
-use Rattle.tree.proofs.Fields.{Placed, placed-none, placed-long, placed-more}
-use Rattle.tree.proofs.put.put_place.Statement.{statement}
-use Rattle.tree.proofs.put.put_place.Tie as tie
+use Rattle.tree_fields.proofs.Fields.{Placed, placed-none, placed-long, placed-more}
+use Rattle.tree_fields.proofs.put.put_place.Statement.{statement}
+use Rattle.tree_fields.proofs.put.put_place.Tie as tie
 
 abbrev Inv-loop : tie.InvT-loop
 Inv-loop level₀ place from to j₀ level j = (from ≤ j) × (j ≤ to) × (level ≡ paste level₀ from (replicate (to - from) place) (j - from))

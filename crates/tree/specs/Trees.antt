@@ -1,35 +1,16 @@
--- What the functions of this crate answer, over `buildTree` of `model`.
+-- What the calls of this crate answer and leave, over `buildTree` of `model`.
 use Prim.Native.Nat.{ℕ, min, _≤_}
 use mathlib.Core.Path.{_≡_}
 use mathlib.Core.List.{List, map}
-use lib.ListN.{length, take}
+use lib.ListN.{length}
 use Rattle.model.specs.declared.TreeAnswer.{TreeAnswer}
 use Rattle.model.specs.declared.TreeEntry.{TreeEntry}
 use Rattle.model.specs.Lists.{over}
-use Rattle.model.specs.Answers.{Numbers, numbersOfTree}
-use Rattle.model.specs.Request.{Request}
-use Rattle.model.specs.Calls.{Outcome, buildTree}
+use Rattle.model.specs.Answers.{numbersOfTree}
+use Rattle.model.specs.Calls.{Outcome}
 use Rattle.tree_entries.specs.Entries.{entriesOf}
-use Rattle.tree.specs.declared.Solved.{Solved}
+use Rattle.tree_fields.specs.Fields.{level, address, mark, cost}
 use Rattle.tree.specs.declared.Built.{Built}
-use Rattle.tree.specs.Fields.{level, address, mark, cost, markOf, costOf, levelsOf, Places}
-
--- what the lists in numbers hold of the entries written, n of them at the start of each list
-pub record Held (written : List TreeEntry) (places n : ℕ) (addresses codes starts : List ℕ) : Type 0 where
-  pub in-order : Places places starts n
-  pub in-addresses : n ≤ length addresses
-  pub in-codes : n ≤ length codes
-  pub levels-are : levelsOf places starts ≡ map level written
-  pub addresses-are : take n addresses ≡ map address written
-  pub marks-are : map markOf (take n codes) ≡ map mark written
-  pub costs-are : map costOf (take n codes) ≡ map cost written
-
--- the answer, and the entries written in numbers; on a refusal there are none
-pub record SolvedBy (outcome : Outcome TreeEntry) (room : ℕ) (addresses codes starts : List ℕ) (r : Solved) : Type 0 where
-  pub numbers : numbersOfTree (r .answer) ≡ outcome .numbers
-  pub most : r .count ≤ 241
-  pub fits : r .count ≤ room
-  pub held : Held (outcome .written) (r .places) (r .count) addresses codes starts
 
 -- the answer, and the entries written by value
 pub record BuiltBy (outcome : Outcome TreeEntry) (room : ℕ) (r : Built) : Type 0 where
@@ -49,3 +30,8 @@ pub record TreeIn (outcome : Outcome TreeEntry) (levels addresses marks costs : 
   pub in-addresses : addresses′ ≡ over (map address (outcome .written)) addresses
   pub in-marks : marks′ ≡ over (map mark (outcome .written)) marks
   pub in-costs : costs′ ≡ over (map cost (outcome .written)) costs
+
+-- the answer, and the lent slice with the entries written at its start and its own rest after them
+pub record TreeLent (outcome : Outcome TreeEntry) (entries : List TreeEntry) (r : TreeAnswer) (entries′ : List TreeEntry) : Type 0 where
+  pub numbers : numbersOfTree r ≡ outcome .numbers
+  pub in-entries : entries′ ≡ over (outcome .written) entries

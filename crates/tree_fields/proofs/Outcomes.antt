@@ -25,10 +25,10 @@ use Rattle.request.specs.Query.{searchFor, Ready}
 use Rattle.levels.specs.Levels.{startOf}
 use Rattle.vspt.specs.Tree.{WorkedOut}
 use Rattle.vspt.proofs.Sequences.{stops-long}
-use Rattle.tree.specs.declared.Solved.{Solved}
-use Rattle.tree.specs.Fields.{levelsOf}
-use Rattle.tree.specs.Solved.{Held, SolvedBy}
-use Rattle.tree.proofs.Whole.{tree-length, most, starts-at, held, tally-small}
+use Rattle.tree_fields.specs.declared.Solved.{Solved}
+use Rattle.tree_fields.specs.Fields.{levelsOf}
+use Rattle.tree_fields.specs.Solved.{Held, SolvedBy}
+use Rattle.tree_fields.proofs.Whole.{tree-length, most, starts-at, held, tally-small}
 use Rattle.model.specs.Lists.{countFrom, each}
 
 abbrev pub refusal : Refusal → Solved

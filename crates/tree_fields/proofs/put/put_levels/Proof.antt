@@ -7,10 +7,10 @@ use borrow.Author.Needs.{needs}
 use lib.ListN.{length, getD, replicate}
 use lib.Seq.{paste}
 use Rattle.model.specs.Lists.{over}
-use Rattle.tree.specs.Fields.{levelsOf}
-use Rattle.tree.proofs.Fields.{Told, told-none, told-length, told-room, told-more}
-use Rattle.tree.proofs.put.put_levels.Statement.{statement}
-use Rattle.tree.proofs.put.put_levels.Tie as tie
+use Rattle.tree_fields.specs.Fields.{levelsOf}
+use Rattle.tree_fields.proofs.Fields.{Told, told-none, told-length, told-room, told-more}
+use Rattle.tree_fields.proofs.put.put_levels.Statement.{statement}
+use Rattle.tree_fields.proofs.put.put_levels.Tie as tie
 
 abbrev Inv-loop : tie.InvT-loop
 Inv-loop starts places level₀ i₀ level i = (i ≤ places) × (level ≡ over (levelsOf i starts) level₀)

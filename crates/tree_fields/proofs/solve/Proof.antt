@@ -10,11 +10,11 @@ use Rattle.model.specs.Calls.{Outcome, nothing, buildTree}
 use Rattle.request.specs.Query.{stopsOf, searchFor}
 use Rattle.request.specs.Checked.{requestOf}
 use Rattle.request.proofs.Requests.{refused-request, accepted-request, search-request}
-use Rattle.tree.specs.declared.Solved.{Solved}
-use Rattle.tree.specs.Solved.{SolvedBy}
-use Rattle.tree.proofs.Outcomes.{refusal, refused-outcome, tree-refused, tree-accepted}
-use Rattle.tree.proofs.solve.Statement.{statement}
-use Rattle.tree.proofs.solve.Tie as tie
+use Rattle.tree_fields.specs.declared.Solved.{Solved}
+use Rattle.tree_fields.specs.Solved.{SolvedBy}
+use Rattle.tree_fields.proofs.Outcomes.{refusal, refused-outcome, tree-refused, tree-accepted}
+use Rattle.tree_fields.proofs.solve.Statement.{statement}
+use Rattle.tree_fields.proofs.solve.Tie as tie
 
 abbrev request : tie.Start → Request
 request c = requestOf (c .args .profile .now) (c .args .ingress .0) (c .args .source .0) (c .args .destination .0) (c .args .include .now) (c .args .exclude .now) (c .args .limits)

@@ -6,10 +6,10 @@ use native.Mathlib.Omega.{arith}
 use borrow.Author.Needs.{needs}
 use lib.ListN.{length, take}
 use Rattle.domain_list.proofs.Copies.{Copied, copied-none}
-use Rattle.tree.specs.Fields.{costOf}
-use Rattle.tree.proofs.Fields.{part-long, part-more, part-whole}
-use Rattle.tree.proofs.put.put_costs.Statement.{statement}
-use Rattle.tree.proofs.put.put_costs.Tie as tie
+use Rattle.tree_fields.specs.Fields.{costOf}
+use Rattle.tree_fields.proofs.Fields.{part-long, part-more, part-whole}
+use Rattle.tree_fields.proofs.put.put_costs.Statement.{statement}
+use Rattle.tree_fields.proofs.put.put_costs.Tie as tie
 
 abbrev Inv-loop : tie.InvT-loop
 Inv-loop codes n out₀ i₀ out i = (i ≤ n) × Copied (map costOf (take n codes)) out₀ out i

@@ -7,11 +7,11 @@ use Rattle.model.specs.Profile.{Layout, version1}
 use Rattle.records.specs.Layout.{Sound}
 use Rattle.request.specs.Query.{searchFor, Ready}
 use Rattle.vspt.specs.Tree.{WorkedOut}
-use Rattle.tree.specs.declared.Solved.{Solved}
-use Rattle.tree.specs.Solved.{SolvedBy}
-use Rattle.tree.proofs.Outcomes.{treeOutcome, count-small, examined-small, too-small, enough}
-use Rattle.tree.proofs.solve_query.Statement.{statement}
-use Rattle.tree.proofs.solve_query.Tie as tie
+use Rattle.tree_fields.specs.declared.Solved.{Solved}
+use Rattle.tree_fields.specs.Solved.{SolvedBy}
+use Rattle.tree_fields.proofs.Outcomes.{treeOutcome, count-small, examined-small, too-small, enough}
+use Rattle.tree_fields.proofs.solve_query.Statement.{statement}
+use Rattle.tree_fields.proofs.solve_query.Tie as tie
 
 first-version-requires : tie.Need-first-version-requires
 first-version-requires c κs = search needs

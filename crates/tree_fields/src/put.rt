@@ -6,7 +6,7 @@ ghost use Prim.Native.Nat.{_≤_, _-_};
 ghost use lib.ListN.{length, take, replicate};
 ghost use lib.Seq.{paste};
 ghost use Rattle.model.specs.Lists.{over};
-ghost use Rattle.tree.specs.Fields.{markOf, costOf, levelsOf, Places};
+ghost use Rattle.tree_fields.specs.Fields.{markOf, costOf, levelsOf, Places};
 
 // One place's number for each of its entries.
 fn put_place(level: &mut [u32], place: u32, from: usize, to: usize)

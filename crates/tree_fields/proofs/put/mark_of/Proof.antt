@@ -2,9 +2,9 @@
 use mathlib.Core.Path.{sym, ap}
 use Rattle.laws.proofs.Reach.{Reach}
 use Rattle.vspt.proofs.Codes.{reach-none, reach-some}
-use Rattle.tree.specs.Fields.{markIf}
-use Rattle.tree.proofs.put.mark_of.Statement.{statement}
-use Rattle.tree.proofs.put.mark_of.Tie as tie
+use Rattle.tree_fields.specs.Fields.{markIf}
+use Rattle.tree_fields.proofs.put.mark_of.Statement.{statement}
+use Rattle.tree_fields.proofs.put.mark_of.Tie as tie
 
 returns : tie.Need-returns
 returns c = sym (ap (λ (x : Reach). markIf (x .reachable)) (reach-none (c .before .args .code) (c .if1 .taken)))

@@ -1,0 +1,27 @@
+-- What `solve` answers and leaves in numbers, over `buildTree` of `model`.
+use Prim.Native.Nat.{ℕ, _≤_}
+use mathlib.Core.Path.{_≡_}
+use mathlib.Core.List.{List, map}
+use lib.ListN.{length, take}
+use Rattle.model.specs.declared.TreeEntry.{TreeEntry}
+use Rattle.model.specs.Answers.{numbersOfTree}
+use Rattle.model.specs.Calls.{Outcome}
+use Rattle.tree_fields.specs.declared.Solved.{Solved}
+use Rattle.tree_fields.specs.Fields.{level, address, mark, cost, markOf, costOf, levelsOf, Places}
+
+-- what the lists in numbers hold of the entries written, n of them at the start of each list
+pub record Held (written : List TreeEntry) (places n : ℕ) (addresses codes starts : List ℕ) : Type 0 where
+  pub in-order : Places places starts n
+  pub in-addresses : n ≤ length addresses
+  pub in-codes : n ≤ length codes
+  pub levels-are : levelsOf places starts ≡ map level written
+  pub addresses-are : take n addresses ≡ map address written
+  pub marks-are : map markOf (take n codes) ≡ map mark written
+  pub costs-are : map costOf (take n codes) ≡ map cost written
+
+-- the answer, and the entries written in numbers; on a refusal there are none
+pub record SolvedBy (outcome : Outcome TreeEntry) (room : ℕ) (addresses codes starts : List ℕ) (r : Solved) : Type 0 where
+  pub numbers : numbersOfTree (r .answer) ≡ outcome .numbers
+  pub most : r .count ≤ 241
+  pub fits : r .count ≤ room
+  pub held : Held (outcome .written) (r .places) (r .count) addresses codes starts

@@ -1,0 +1,118 @@
+// A request's tree in numbers: every check before 34, the tree worked out, and 34. `put` writes it field by field over the start of buffers.
+use model::DomainIndex;
+use model::Limits;
+use model::NodeAddress;
+use model::Refusal;
+use model::TreeAnswer;
+use model::Verdict;
+use records::layout::first_version;
+use request::Query;
+use request::check_request;
+use vspt::work_out;
+ghost use mathlib.Core.Path.{_≡_};
+ghost use lib.ListN.{length};
+ghost use Rattle.model.specs.Profile.{version1};
+ghost use Rattle.model.specs.Calls.{buildTree, answerTree, roomVerdict};
+ghost use Rattle.model.specs.Tree.{tree};
+ghost use Rattle.request.specs.Checked.{requestOf};
+ghost use Rattle.request.specs.Query.{searchFor, Ready};
+ghost use Rattle.tree_fields.specs.Solved.{SolvedBy};
+
+pub mod put;
+
+// A tree in numbers: the answer, how many entries are to be written and how many places they have; nothing on a refusal.
+pub struct Solved {
+    pub answer: TreeAnswer,
+    pub count: usize,
+    pub places: usize,
+}
+
+fn refused(r: Refusal) -> Solved
+    ensures { λ x. ⌜ x ≡ record { answer = TreeAnswer.Refused r; count = 0; places = 0 } ⌝ }
+{
+    Solved {
+        answer: TreeAnswer::Refused(r),
+        count: 0,
+        places: 0,
+    }
+}
+
+// The tree of a query, and whether there is room for it.
+fn solve_query(
+    profile: &[u8],
+    exclude: &[u8],
+    q: Query,
+    room: usize,
+    addresses: &mut [u32; 242],
+    reaches: &mut [u32; 242],
+    starts: &mut [usize; 18],
+) -> Solved
+    requires { ⌜ Ready version1 (now profile) (now exclude) q ⌝ }
+    requires { ⌜ (length (now addresses) ≡ 242) × (length (now reaches) ≡ 242) × (length (now starts) ≡ 18) ⌝ }
+    ensures { λ r. ⌜ SolvedBy (answerTree (roomVerdict (length (tree (searchFor version1 (now (profile .entry)) (now (exclude .entry)) q))) room) (searchFor version1 (now (profile .entry)) (now (exclude .entry)) q)) room (now (addresses .exit)) (now (reaches .exit)) (now (starts .exit)) r ⌝ }
+{
+    let mut firsts = [0usize; 16];
+    let mut lasts = [0usize; 16];
+    let layout = first_version();
+    let examined = work_out(
+        profile,
+        layout,
+        exclude,
+        q,
+        addresses,
+        reaches,
+        starts,
+        &mut firsts,
+        &mut lasts,
+    );
+    let places = q.count;
+    let count = starts[places];
+    if room < count {
+        return refused(Refusal {
+            number: 34,
+            place: 0,
+        });
+    }
+    Solved {
+        answer: TreeAnswer::Built {
+            entries: count as u32,
+            tally: examined as u32,
+        },
+        count,
+        places,
+    }
+}
+
+// The tree of a request in numbers: every check before 34, the tree, and 34.
+pub fn solve(
+    profile: &[u8],
+    ingress: DomainIndex,
+    source: NodeAddress,
+    destination: NodeAddress,
+    include: &[u8],
+    exclude: &[u8],
+    limits: Limits,
+    room: usize,
+    addresses: &mut [u32; 242],
+    reaches: &mut [u32; 242],
+    starts: &mut [usize; 18],
+) -> Solved
+    requires { ⌜ (length (now addresses) ≡ 242) × (length (now reaches) ≡ 242) × (length (now starts) ≡ 18) ⌝ }
+    ensures { λ r. ⌜ SolvedBy (buildTree (requestOf (now (profile .entry)) (ingress .0) (source .0) (destination .0) (now (include .entry)) (now (exclude .entry)) limits) room) room (now (addresses .exit)) (now (reaches .exit)) (now (starts .exit)) r ⌝ }
+{
+    let checked = check_request(
+        profile,
+        ingress,
+        source,
+        destination,
+        include,
+        exclude,
+        limits,
+    );
+    let verdict = checked.verdict;
+    if let Verdict::Refuse(r) = verdict {
+        return refused(r);
+    }
+    let q = checked.query;
+    solve_query(profile, exclude, q, room, addresses, reaches, starts)
+}
