@@ -203,6 +203,105 @@ uint32_t yq_tree(const uint8_t *profile, size_t profile_count,
                  uint32_t *cost, size_t cost_count,
                  uint32_t numbers[3]);
 
+/*
+ * The first of a request's shortest paths: of all paths that keep the bound and
+ * have the least total, the least one, compared address by address from the
+ * left. The request is as yq_tree takes it.
+ *
+ *   path  the path: the source, an entry node for each domain of the sequence
+ *         but the first, and the destination, so 17 elements are always enough
+ *
+ * Returns the first of these, in the order in which the checks are made:
+ *
+ *    10 to 32  what yq_tree finds wrong with the request
+ *    34  path has fewer elements than a path has addresses
+ *     1  no path keeps the bound
+ *     0  the path is at the start of the buffer; the rest of it is untouched
+ *
+ * numbers[0]  place, as yq_tree stores it
+ * numbers[1]  on 0 the path's total cost as a whole number; else 0
+ * numbers[2]  on 0 the bits of the 32-bit float of exactly that value; else 0
+ */
+uint32_t yq_first(const uint8_t *profile, size_t profile_count,
+                  uint16_t ingress, uint32_t source, uint32_t destination,
+                  const uint8_t *include, size_t include_count,
+                  const uint8_t *exclude, size_t exclude_count,
+                  uint32_t bandwidth_bits, bool bound_counts,
+                  uint32_t bound_bits,
+                  uint32_t *path, size_t path_count,
+                  uint32_t numbers[3]);
+
+/*
+ * The next of a request's shortest paths after a given list of addresses: the
+ * least one that is greater than the list, whether or not the list is itself a
+ * path. Given a path that yq_first or yq_next has stored, it is the one after
+ * that.
+ *
+ *   given  as many addresses as a path has
+ *   path   as for yq_first; it may hold the list only if given is a copy
+ *
+ * Returns the first of these, in the order in which the checks are made:
+ *
+ *    10 to 32  what yq_tree finds wrong with the request
+ *    33  given has more or fewer elements than a path has addresses
+ *    34  path has fewer elements than a path has addresses
+ *     2  no shortest path is greater than the list
+ *     0  the path is at the start of the buffer; the rest of it is untouched
+ *
+ * numbers  as yq_first stores them
+ */
+uint32_t yq_next(const uint8_t *profile, size_t profile_count,
+                 uint16_t ingress, uint32_t source, uint32_t destination,
+                 const uint8_t *include, size_t include_count,
+                 const uint8_t *exclude, size_t exclude_count,
+                 uint32_t bandwidth_bits, bool bound_counts,
+                 uint32_t bound_bits,
+                 const uint32_t *given, size_t given_count,
+                 uint32_t *path, size_t path_count,
+                 uint32_t numbers[3]);
+
+/*
+ * Makes a series of calls for first and next on one request, in order. Each
+ * next is given a copy of the path last handed out in this series, or, before
+ * any, an empty list.
+ *
+ *   kinds    an element for each call: 0 is a first, 1 a next
+ *   sizes    for each call how many addresses its result buffer has
+ *   buffers  the calls' result buffers, back to back, each of any content
+ *   numbers  four for each call: its answer, place, total as a whole number and
+ *            total as the bits of a float; what lies past them is untouched
+ *
+ * Returns
+ *
+ *   100  a kind over 1; counts of kinds and sizes that differ; sizes that do
+ *        not add up to the count of buffers; under four numbers for each call.
+ *        Told before the request is looked at, and nothing is written
+ *     0  the calls are made
+ *
+ * A call's answer is 10 to 32 where the request is refused, then every call's
+ * is the same; else the first of these
+ *
+ *    33  next: no path was handed out yet
+ *    34  its buffer has less room than a path needs
+ *     1  first: there is no path
+ *     2  next: the path last handed out is the last one
+ *     0  a path: first hands out the first one, next the one after that last
+ *        handed out. It stands at the start of the call's buffer
+ *
+ * On any answer but 0 the call's buffer is untouched, its total and float bits
+ * are 0, and the path last handed out stays that.
+ */
+uint32_t yq_series(const uint8_t *profile, size_t profile_count,
+                   uint16_t ingress, uint32_t source, uint32_t destination,
+                   const uint8_t *include, size_t include_count,
+                   const uint8_t *exclude, size_t exclude_count,
+                   uint32_t bandwidth_bits, bool bound_counts,
+                   uint32_t bound_bits,
+                   const uint8_t *kinds, size_t kinds_count,
+                   const uint32_t *sizes, size_t sizes_count,
+                   uint32_t *buffers, size_t buffers_count,
+                   uint32_t *numbers, size_t numbers_count);
+
 #ifdef __cplusplus
 }
 #endif

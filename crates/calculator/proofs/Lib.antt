@@ -1,1 +1,2 @@
 pub mod RoundTrip
+mod PathCalls

@@ -6,10 +6,12 @@ use lib.ListN.{length}
 use Rattle.model.specs.Lists.{over}
 use Rattle.model.specs.Sequence.{Stop}
 use Rattle.model.specs.Request.{Request}
-use Rattle.model.specs.Calls.{readInclude, writeList, buildTree, pinMark, pinNode}
+use Rattle.model.specs.Calls.{Outcome, readInclude, writeList, buildTree, pinMark, pinNode}
 use Rattle.domain_list.specs.ReadInclude.{least3}
 use Rattle.tree_fields.specs.Fields.{level, address, mark, cost}
 use Rattle.tree.specs.Trees.{least4}
+use Rattle.series.specs.Calls.{malformed}
+use Rattle.series.specs.Runs.{numberOfSeries, answerIf, LeftIf}
 
 -- the number returned, the other numbers stored, and each buffer with its part of the sequence at its start
 pub record ReadExport (profile : List ℕ) (ingress : ℕ) (list domains marks nodes : List ℕ) (r : ℕ) (numbers domains′ marks′ nodes′ : List ℕ) : Type 0 where
@@ -33,3 +35,14 @@ pub record TreeExport (request : Request) (levels addresses marks costs : List �
   pub in-addresses : addresses′ ≡ over (map address ((buildTree request (least4 levels addresses marks costs)) .written)) addresses
   pub in-marks : marks′ ≡ over (map mark ((buildTree request (least4 levels addresses marks costs)) .written)) marks
   pub in-costs : costs′ ≡ over (map cost ((buildTree request (least4 levels addresses marks costs)) .written)) costs
+
+-- the number returned, the other numbers stored, and the path at the start of its buffer
+pub record PathExport (o : Outcome ℕ) (path : List ℕ) (r : ℕ) (numbers path′ : List ℕ) : Type 0 where
+  pub answer : r ≡ o .numbers .answer
+  pub others : numbers ≡ o .numbers .others
+  pub in-path : path′ ≡ over (o .written) path
+
+-- the number returned, and every buffer and number of the series: one claim about all its calls
+pub record SeriesExport (request : Request) (kinds sizes buffers numbers : List ℕ) (r : ℕ) (buffers′ numbers′ : List ℕ) : Type 0 where
+  pub answer : r ≡ numberOfSeries (answerIf (malformed kinds sizes (length buffers) (length numbers)))
+  pub left : LeftIf (malformed kinds sizes (length buffers) (length numbers)) request kinds sizes buffers numbers buffers′ numbers′

@@ -1,21 +1,23 @@
 // The library that a user links: the public calls under C names. Each returns document 01's number and stores the other numbers in `numbers`.
+use crate::limits::limits_of;
 use domain_list::read::read_include;
 use list_writer::writer::write_list;
 use model::DomainIndex;
-use model::Limits;
 use model::NodeAddress;
 use model::ProfileAnswer;
 use model::ReadAnswer;
 use model::TreeAnswer;
 use model::WriteAnswer;
 use profile::check_profile;
-use request::floats::float_of;
 use tree::tree_numbers;
 ghost use mathlib.Core.Path.{_≡_};
 ghost use Rattle.model.specs.Calls.{checkProfile};
 ghost use Rattle.calculator.specs.Exports.{ReadExport, WriteExport, TreeExport};
 ghost use Rattle.request.specs.Bits.{limitsOfBits};
 ghost use Rattle.request.specs.Checked.{requestOf};
+
+pub mod limits;
+pub mod path_calls;
 
 // numbers: place
 #[no_mangle]
@@ -90,19 +92,6 @@ pub extern "C" fn yq_write_list(
             *numbers = [r.place, 0];
             r.number
         }
-    }
-}
-
-// The limits of a request from their bits.
-fn limits_of(bandwidth_bits: u32, bound_counts: bool, bound_bits: u32) -> Limits
-    ensures { λ r. ⌜ r ≡ limitsOfBits «bandwidth_bits» «bound_counts» «bound_bits» ⌝ }
-{
-    let bandwidth = float_of(bandwidth_bits);
-    let bound = float_of(bound_bits);
-    Limits {
-        bandwidth,
-        bound,
-        bounded: bound_counts,
     }
 }
 

@@ -3,13 +3,13 @@ use mathlib.Core.Path.{_≡_}
 use mathlib.Core.Bool.{Bool, true, false}
 use mathlib.Core.List.{List}
 use Prim.Native.Nat.{ℕ, _≤_}
-use lib.Ieee.{Float, isNan}
 use lib.ListN.{length, take}
 use Rattle.model.specs.declared.PathAnswer.{PathAnswer}
-use Rattle.model.specs.declared.PathAnswer.the-variants.{Found, NoPath, End}
+use Rattle.model.specs.declared.PathAnswer.the-variants.{NoPath, End}
 use Rattle.model.specs.Answers.{numbersOfPath}
 use Rattle.model.specs.Calls.{Outcome}
 use Rattle.paths.specs.declared.route.Routed.{Routed}
+use Rattle.paths.specs.Numbers.{Real}
 
 -- where there is no path: for next nothing greater, for first no admissible path
 abbrev pub noneAnswer : Bool → PathAnswer
@@ -27,4 +27,4 @@ pub record RoutedBy (o : Outcome ℕ) (room : ℕ) (r : Routed) : Type 0 where
   pub few : r .count ≤ 17
   pub fits : r .count ≤ room
   pub long : length (r .path) ≡ 17
-  pub real : (total : ℕ) (x : Float) → r .answer ≡ Found total x → isNan x ≡ false
+  pub real : Real (r .answer)

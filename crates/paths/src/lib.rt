@@ -12,7 +12,9 @@ ghost use Rattle.model.specs.Lists.{over};
 ghost use Rattle.model.specs.Answers.{numbersOfPath};
 ghost use Rattle.model.specs.Calls as Calls;
 ghost use Rattle.request.specs.Checked.{requestOf};
+ghost use Rattle.paths.specs.Numbers.{Real};
 
+pub mod numbers;
 pub mod route;
 
 // The first `n` of some addresses over the start of a lent list.
@@ -38,6 +40,7 @@ pub fn first(
     limits: Limits,
     path: &mut [u32],
 ) -> PathAnswer
+    ensures { λ r. ⌜ Real r ⌝ }
     ensures { λ r. ⌜ numbersOfPath r ≡ (Calls.first (requestOf (now (profile .entry)) (ingress .0) (source .0) (destination .0) (now (include .entry)) (now (exclude .entry)) limits) (length (now (path .entry)))) .numbers ⌝ }
     ensures { λ _. ⌜ now (path .exit) ≡ over ((Calls.first (requestOf (now (profile .entry)) (ingress .0) (source .0) (destination .0) (now (include .entry)) (now (exclude .entry)) limits) (length (now (path .entry)))) .written) (now (path .entry)) ⌝ }
 {
@@ -68,6 +71,7 @@ pub fn next(
     given: &[u32],
     path: &mut [u32],
 ) -> PathAnswer
+    ensures { λ r. ⌜ Real r ⌝ }
     ensures { λ r. ⌜ numbersOfPath r ≡ (Calls.next (requestOf (now (profile .entry)) (ingress .0) (source .0) (destination .0) (now (include .entry)) (now (exclude .entry)) limits) (now (given .entry)) (length (now (path .entry)))) .numbers ⌝ }
     ensures { λ _. ⌜ now (path .exit) ≡ over ((Calls.next (requestOf (now (profile .entry)) (ingress .0) (source .0) (destination .0) (now (include .entry)) (now (exclude .entry)) limits) (now (given .entry)) (length (now (path .entry)))) .written) (now (path .entry)) ⌝ }
 {

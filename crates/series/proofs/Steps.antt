@@ -20,7 +20,8 @@ use Rattle.model.specs.Series.{Call, Reply, replyTo, callOutcome, lastAfter, ru
 use Rattle.paths.specs.declared.route.Routed.{Routed}
 use Rattle.paths.specs.Routed.{RoutedBy}
 use Rattle.series.specs.Calls.{kindOf, callsOf}
-use Rattle.series.specs.Runs.{fourOf, numbersOf, bufferOf, Left}
+use Rattle.paths.specs.Numbers.{fourOf}
+use Rattle.series.specs.Runs.{numbersOf, bufferOf, Left}
 use Rattle.series.proofs.Forms.{Formed, sum-here, sum-none}
 use Rattle.series.proofs.Pieces.{pasted-take, pasted-drop}
 

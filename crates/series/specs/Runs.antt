@@ -2,37 +2,32 @@
 use Prim.Native.Nat.{ℕ}
 use mathlib.Core.Path.{_≡_}
 use mathlib.Core.Bool.{Bool, true, false}
-use mathlib.Core.List.{List, _∷_}
-use lib.Ieee.{Float, isNan}
+use mathlib.Core.List.{List}
 use lib.ListN.{length}
-use Rattle.model.specs.declared.PathAnswer.{PathAnswer}
-use Rattle.model.specs.declared.PathAnswer.the-variants.{Found}
 use Rattle.model.specs.Lists.{each, over}
 use Rattle.model.specs.Request.{Request}
-use Rattle.model.specs.Answers.{Numbers}
 use Rattle.model.specs.Series.{Call, Reply, replies}
+use Rattle.paths.specs.Numbers.{fourOf}
 use Rattle.series.specs.declared.SeriesAnswer.{SeriesAnswer}
 use Rattle.series.specs.declared.SeriesAnswer.the-variants.{Done, Malformed}
 use Rattle.series.specs.Calls.{callsOf, malformed}
 
--- the four numbers of a call: answer, place, total, bits of the total's float
-abbrev pub fourOf : Numbers → List ℕ
-fourOf n = n .answer ∷ n .others
-
+-- the four numbers of a call, and its buffer
 abbrev pub numbersOf : Reply → List ℕ
 numbersOf x = fourOf (x .numbers)
 
 abbrev pub bufferOf : Reply → List ℕ
 bufferOf x = x .buffer
 
--- a found path's float is a number
-abbrev pub Real : PathAnswer → Type 0
-Real answer = (n : ℕ) (x : Float) → answer ≡ Found n x → isNan x ≡ false
-
 -- every buffer and every number of a list of replies, in their order; numbers past them stay
 pub record Left (replies : List Reply) (numbers buffers′ numbers′ : List ℕ) : Type 0 where
   pub in-buffers : buffers′ ≡ each bufferOf replies
   pub in-numbers : numbers′ ≡ over (each numbersOf replies) numbers
+
+-- the number that the C interface returns; 100 is none of document 01's
+abbrev pub numberOfSeries : SeriesAnswer → ℕ
+numberOfSeries Done = 0
+numberOfSeries Malformed = 100
 
 abbrev pub answerIf : Bool → SeriesAnswer
 answerIf true = Malformed

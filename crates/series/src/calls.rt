@@ -1,9 +1,9 @@
 // The calls of a series, one after the other.
-use crate::put::four_of;
 use crate::put::put;
 use model::DomainIndex;
 use model::Limits;
 use model::NodeAddress;
+use paths::numbers::four_of;
 use paths::route::Routed;
 use paths::route::first_route;
 use paths::route::next_route;

@@ -24,7 +24,7 @@ same-length c = search needs
 returns : tie.Need-returns
 returns c =
     let is = c .before .before .before .before .before .first-route .ensures in
-    (is .numbers-are, c .before .before .put-addresses .ensures ∙ ap (λ (l : List ℕ). over l (c .before .before .before .before .before .before .before .before .before .before .args .path .now)) (is .written-is))
+    (is .real, (is .numbers-are, c .before .before .put-addresses .ensures ∙ ap (λ (l : List ℕ). over l (c .before .before .before .before .before .before .before .before .before .before .args .path .now)) (is .written-is)))
 
 pub first-spec : {M : Type 1} → statement M
 first-spec = tie.close (tie.spec first-route-requires put-addresses-requires same-length returns)

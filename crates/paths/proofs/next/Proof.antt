@@ -24,7 +24,7 @@ same-length c = search needs
 returns : tie.Need-returns
 returns c =
     let is = c .before .before .before .before .before .next-route .ensures in
-    (is .numbers-are, c .before .before .put-addresses .ensures ∙ ap (λ (l : List ℕ). over l (c .before .before .before .before .before .before .before .before .before .before .before .args .path .now)) (is .written-is))
+    (is .real, (is .numbers-are, c .before .before .put-addresses .ensures ∙ ap (λ (l : List ℕ). over l (c .before .before .before .before .before .before .before .before .before .before .before .args .path .now)) (is .written-is)))
 
 pub next-spec : {M : Type 1} → statement M
 next-spec = tie.close (tie.spec next-route-requires put-addresses-requires same-length returns)

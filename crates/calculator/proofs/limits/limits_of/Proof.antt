@@ -1,7 +1,7 @@
--- `limits_of` meets its contract: each float is that of its bits.
+-- `limits::limits_of` meets its contract: each float is that of its bits.
 use borrow.Author.Needs.{needs}
-use Rattle.calculator.proofs.limits_of.Statement.{statement}
-use Rattle.calculator.proofs.limits_of.Tie as tie
+use Rattle.calculator.proofs.limits.limits_of.Statement.{statement}
+use Rattle.calculator.proofs.limits.limits_of.Tie as tie
 
 float-of-requires : tie.Need-float-of-requires
 float-of-requires c κs = search needs

@@ -1,4 +1,4 @@
--- `put::four_of` meets its contract: an equation for each case of the answer.
+-- `numbers::four_of` meets its contract: an equation for each case of the answer.
 use mathlib.Core.Path.{sym, ap}
 use mathlib.Core.List.{List}
 use Prim.Native.Nat.{ℕ}
@@ -6,9 +6,9 @@ use borrow.Author.Needs.{needs}
 use Rattle.model.specs.declared.PathAnswer.{PathAnswer}
 use Rattle.model.specs.Answers.{numbersOfPath}
 use Rattle.laws.proofs.Tests.{false-T}
-use Rattle.series.specs.Runs.{fourOf}
-use Rattle.series.proofs.put.four_of.Statement.{statement}
-use Rattle.series.proofs.put.four_of.Tie as tie
+use Rattle.paths.specs.Numbers.{fourOf}
+use Rattle.paths.proofs.numbers.four_of.Statement.{statement}
+use Rattle.paths.proofs.numbers.four_of.Tie as tie
 
 abbrev told : PathAnswer → List ℕ
 told answer = fourOf (numbersOfPath answer)

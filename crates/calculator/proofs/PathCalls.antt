@@ -1,0 +1,49 @@
+-- What the exports of first, next and the series store, from what the calls answer: the four numbers of an answer, and a run's answer told. By the cases of an answer.
+use mathlib.Core.Path.{_≡_, refl, ap, subst, _∙_}
+use mathlib.Core.List.{List, [], _∷_}
+use Prim.Native.Nat.{ℕ}
+use lib.ListN.{getD}
+use Rattle.model.specs.declared.Limits.{Limits}
+use Rattle.model.specs.declared.PathAnswer.{PathAnswer}
+use Rattle.model.specs.declared.PathAnswer.the-variants.{Found, NoPath, End, Refused}
+use Rattle.model.specs.Lists.{over}
+use Rattle.model.specs.Request.{Request}
+use Rattle.model.specs.Answers.{Numbers, numbersOfPath}
+use Rattle.model.specs.Calls.{Outcome}
+use Rattle.paths.specs.Numbers.{fourOf}
+use Rattle.series.specs.declared.SeriesAnswer.{SeriesAnswer}
+use Rattle.series.specs.Runs.{numberOfSeries, RunIs}
+use Rattle.calculator.specs.Exports.{PathExport, SeriesExport}
+
+abbrev rest : List ℕ → List ℕ
+rest four = getD four 1 0 ∷ getD four 2 0 ∷ getD four 3 0 ∷ []
+
+told-answer : (a : PathAnswer) → getD (fourOf (numbersOfPath a)) 0 0 ≡ (numbersOfPath a) .answer
+told-answer a = refl
+
+told-others : (a : PathAnswer) → rest (fourOf (numbersOfPath a)) ≡ (numbersOfPath a) .others
+told-others (Found n x) = refl
+told-others NoPath = refl
+told-others End = refl
+told-others (Refused r) = refl
+
+-- the limits are those that the call was given
+pub path-export
+    : (by : Limits → Outcome ℕ) (limits given : Limits) (a : PathAnswer) (four old path : List ℕ)
+    → limits ≡ given → four ≡ fourOf (numbersOfPath a) → numbersOfPath a ≡ (by limits) .numbers → path ≡ over ((by limits) .written) old
+    → PathExport (by given) old (getD four 0 0) (getD four 1 0 ∷ getD four 2 0 ∷ getD four 3 0 ∷ []) path
+path-export by limits given a four old path same is numbers written =
+    subst (λ (l : Limits). PathExport (by l) old (getD four 0 0) (rest four) path) same
+    (record {
+      answer = ap (λ (l : List ℕ). getD l 0 0) is ∙ told-answer a ∙ ap (λ (n : Numbers). n .answer) numbers;
+      others = ap rest is ∙ told-others a ∙ ap (λ (n : Numbers). n .others) numbers;
+      in-path = written;
+    })
+
+pub series-export
+    : (by : Limits → Request) (limits given : Limits) (kinds sizes buffers numbers buffers′ numbers′ : List ℕ) (answer known : SeriesAnswer)
+    → limits ≡ given → RunIs (by limits) kinds sizes buffers numbers answer buffers′ numbers′ → known ≡ answer
+    → SeriesExport (by given) kinds sizes buffers numbers (numberOfSeries known) buffers′ numbers′
+series-export by limits given kinds sizes buffers numbers buffers′ numbers′ answer known same is e =
+    subst (λ (l : Limits). SeriesExport (by l) kinds sizes buffers numbers (numberOfSeries known) buffers′ numbers′) same
+    (record { answer = ap numberOfSeries (e ∙ is .told); left = is .left })
