@@ -9,7 +9,7 @@ use Rattle.model.specs.Request.{Request}
 use Rattle.model.specs.Calls.{Outcome, readInclude, writeList, buildTree, pinMark, pinNode}
 use Rattle.domain_list.specs.ReadInclude.{least3}
 use Rattle.tree_fields.specs.Fields.{level, address, mark, cost}
-use Rattle.tree.specs.Trees.{least4}
+use Rattle.tree_fields.specs.Solved.{least4}
 use Rattle.series.specs.Calls.{malformed}
 use Rattle.series.specs.Runs.{numberOfSeries, answerIf, LeftIf}
 

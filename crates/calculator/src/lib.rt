@@ -9,7 +9,7 @@ use model::ReadAnswer;
 use model::TreeAnswer;
 use model::WriteAnswer;
 use profile::check_profile;
-use tree::tree_numbers;
+use tree_fields::tree_numbers;
 ghost use mathlib.Core.Path.{_≡_};
 ghost use Rattle.model.specs.Calls.{checkProfile};
 ghost use Rattle.calculator.specs.Exports.{ReadExport, WriteExport, TreeExport};

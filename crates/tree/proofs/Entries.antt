@@ -1,19 +1,18 @@
--- Entries and their fields: the numbers that are held give the entries back, and each field of them lies over a buffer. By index.
-use Prim.Native.Nat.{ℕ, _≤_, _<_}
+-- Entries and their fields: buffers that the fields lie over give the entries back. By index.
+use Prim.Native.Nat.{ℕ, _<_}
 use native.Mathlib.Nat.{zero-add}
 use native.Mathlib.Omega.{arith}
 use mathlib.Core.Path.{_≡_, refl, sym, ap, _∙_}
 use mathlib.Core.Bool.{Bool, true, false}
 use mathlib.Core.List.{List, map}
-use lib.ListN.{length, getD, take, drop, length-map, length-take, List·getD-map, List·getD-append}
+use lib.ListN.{length, getD, drop, length-map, List·getD-map, List·getD-append}
 use lib.Dec.{eqb}
-use lib.Seq.{ext-getD, length-take-le}
+use lib.Seq.{ext-getD}
 use Rattle.model.specs.declared.TreeEntry.{TreeEntry}
 use Rattle.model.specs.Lists.{over, countFrom}
 use Rattle.laws.proofs.ProfileLists.{length-map-countFrom, getD-map-countFrom}
 use Rattle.tree_entries.specs.Entries.{entryAt, entriesOf}
-use Rattle.tree_fields.specs.Fields.{markIf, level, address, mark, cost, markOf, costOf, levelsOf, Places}
-use Rattle.tree_fields.specs.Solved.{Held}
+use Rattle.tree_fields.specs.Fields.{markIf, level, address, mark, cost}
 
 abbrev none : TreeEntry
 none = record { level = 0; address = record { 0 = 0 }; reachable = false; cost = 0 }
@@ -50,32 +49,3 @@ module _ (w : List TreeEntry) where
           let d = field-at cost costs i refl small in
           let r = ap (λ (m : ℕ). eqb m 1) c ∙ marked ((getD w i none) .reachable) in
           getD-map-countFrom back 0 n i none h ∙ ap back (zero-add i) ∙ (λ j. record { level = a j; address = record { 0 = b j }; reachable = r j; cost = d j })
-
--- ---- what is held, as what a buffer then has
-
--- more room does no harm
-pub places-within : (count : ℕ) (starts : List ℕ) (n m : ℕ) → Places count starts n → n ≤ m → Places count starts m
-places-within count starts n m p h =
-    record {
-      few = p .few;
-      start-is = p .start-is;
-      ascends = p .ascends;
-      fits = λ i k. omega (arith, p .fits i k);
-    }
-
-module _ (w : List TreeEntry) (places n : ℕ) (addresses codes starts : List ℕ) (h : Held w places n addresses codes starts) where
-  pub held-count : n ≡ length w
-  held-count = omega (arith, length-take-le n addresses (h .in-addresses), ap length (h .addresses-are), length-map w address)
-
-  module _ (old new : List ℕ) where
-    pub levels-over : new ≡ over (levelsOf places starts) old → new ≡ over (map level w) old
-    levels-over e = e ∙ ap (λ (l : List ℕ). over l old) (h .levels-are)
-
-    pub addresses-over : new ≡ over (take n addresses) old → new ≡ over (map address w) old
-    addresses-over e = e ∙ ap (λ (l : List ℕ). over l old) (h .addresses-are)
-
-    pub marks-over : new ≡ over (map markOf (take n codes)) old → new ≡ over (map mark w) old
-    marks-over e = e ∙ ap (λ (l : List ℕ). over l old) (h .marks-are)
-
-    pub costs-over : new ≡ over (map costOf (take n codes)) old → new ≡ over (map cost w) old
-    costs-over e = e ∙ ap (λ (l : List ℕ). over l old) (h .costs-are)

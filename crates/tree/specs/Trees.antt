@@ -1,15 +1,13 @@
 -- What the calls of this crate answer and leave, over `buildTree` of `model`.
-use Prim.Native.Nat.{ℕ, min, _≤_}
+use Prim.Native.Nat.{ℕ, _≤_}
 use mathlib.Core.Path.{_≡_}
-use mathlib.Core.List.{List, map}
-use lib.ListN.{length}
+use mathlib.Core.List.{List}
 use Rattle.model.specs.declared.TreeAnswer.{TreeAnswer}
 use Rattle.model.specs.declared.TreeEntry.{TreeEntry}
 use Rattle.model.specs.Lists.{over}
 use Rattle.model.specs.Answers.{numbersOfTree}
 use Rattle.model.specs.Calls.{Outcome}
 use Rattle.tree_entries.specs.Entries.{entriesOf}
-use Rattle.tree_fields.specs.Fields.{level, address, mark, cost}
 use Rattle.tree.specs.declared.Built.{Built}
 
 -- the answer, and the entries written by value
@@ -18,18 +16,6 @@ pub record BuiltBy (outcome : Outcome TreeEntry) (room : ℕ) (r : Built) : Type
   pub most : r .count ≤ 241
   pub fits : r .count ≤ room
   pub entries-are : entriesOf (r .count) (r .table .level) (r .table .address) (r .table .reachable) (r .table .cost) ≡ outcome .written
-
--- the capacity of four buffers that belong together
-abbrev pub least4 : List ℕ → List ℕ → List ℕ → List ℕ → ℕ
-least4 a b c d = min (min (length a) (length b)) (min (length c) (length d))
-
--- the answer, and each buffer with its field of the entries written at its start and its own rest after it
-pub record TreeIn (outcome : Outcome TreeEntry) (levels addresses marks costs : List ℕ) (r : TreeAnswer) (levels′ addresses′ marks′ costs′ : List ℕ) : Type 0 where
-  pub numbers : numbersOfTree r ≡ outcome .numbers
-  pub in-levels : levels′ ≡ over (map level (outcome .written)) levels
-  pub in-addresses : addresses′ ≡ over (map address (outcome .written)) addresses
-  pub in-marks : marks′ ≡ over (map mark (outcome .written)) marks
-  pub in-costs : costs′ ≡ over (map cost (outcome .written)) costs
 
 -- the answer, and the lent slice with the entries written at its start and its own rest after them
 pub record TreeLent (outcome : Outcome TreeEntry) (entries : List TreeEntry) (r : TreeAnswer) (entries′ : List TreeEntry) : Type 0 where

@@ -12,72 +12,16 @@ use tree_fields::put::put_levels;
 use tree_fields::put::put_marks;
 use tree_fields::solve;
 ghost use mathlib.Core.Path.{_≡_};
-ghost use Prim.Native.Nat.{min};
 ghost use lib.ListN.{length};
 ghost use Rattle.model.specs.Calls.{buildTree};
 ghost use Rattle.request.specs.Checked.{requestOf};
-ghost use Rattle.tree.specs.Trees.{BuiltBy, least4, TreeIn, TreeLent};
+ghost use Rattle.tree.specs.Trees.{BuiltBy, TreeLent};
 
 // A tree by value: the answer, and the entries to be written, `count` of them.
 pub struct Built {
     pub answer: TreeAnswer,
     pub count: usize,
     pub table: TreeTable,
-}
-
-// The lesser of two counts.
-fn lesser(a: usize, b: usize) -> usize
-    ensures { λ r. ⌜ r ≡ min a b ⌝ }
-{
-    if a <= b {
-        return a;
-    }
-    b
-}
-
-// The tree's fields in four lent buffers. On a refusal they keep what they held.
-pub fn tree_numbers(
-    profile: &[u8],
-    ingress: DomainIndex,
-    source: NodeAddress,
-    destination: NodeAddress,
-    include: &[u8],
-    exclude: &[u8],
-    limits: Limits,
-    level: &mut [u32],
-    address: &mut [u32],
-    reachable: &mut [u8],
-    cost: &mut [u32],
-) -> TreeAnswer
-    ensures { λ r. ⌜ TreeIn (buildTree (requestOf (now (profile .entry)) (ingress .0) (source .0) (destination .0) (now (include .entry)) (now (exclude .entry)) limits) (least4 (now (level .entry)) (now (address .entry)) (now (reachable .entry)) (now (cost .entry)))) (now (level .entry)) (now (address .entry)) (now (reachable .entry)) (now (cost .entry)) r (now (level .exit)) (now (address .exit)) (now (reachable .exit)) (now (cost .exit)) ⌝ }
-{
-    let mut addresses = [0u32; 242];
-    let mut reaches = [0u32; 242];
-    let mut starts = [0usize; 18];
-    let room = lesser(
-        lesser(level.len(), address.len()),
-        lesser(reachable.len(), cost.len()),
-    );
-    let solved = solve(
-        profile,
-        ingress,
-        source,
-        destination,
-        include,
-        exclude,
-        limits,
-        room,
-        &mut addresses,
-        &mut reaches,
-        &mut starts,
-    );
-    let answer = solved.answer;
-    let n = solved.count;
-    put_levels(&starts, solved.places, level);
-    put_addresses(&addresses, n, address);
-    put_marks(&reaches, n, reachable);
-    put_costs(&reaches, n, cost);
-    answer
 }
 
 // The tree's entries by value, for a caller with this much room.

@@ -1,9 +1,11 @@
--- What `solve` answers and leaves in numbers, over `buildTree` of `model`.
-use Prim.Native.Nat.{ℕ, _≤_}
+-- What the functions of this crate answer and leave in numbers, over `buildTree` of `model`.
+use Prim.Native.Nat.{ℕ, min, _≤_}
 use mathlib.Core.Path.{_≡_}
 use mathlib.Core.List.{List, map}
 use lib.ListN.{length, take}
+use Rattle.model.specs.declared.TreeAnswer.{TreeAnswer}
 use Rattle.model.specs.declared.TreeEntry.{TreeEntry}
+use Rattle.model.specs.Lists.{over}
 use Rattle.model.specs.Answers.{numbersOfTree}
 use Rattle.model.specs.Calls.{Outcome}
 use Rattle.tree_fields.specs.declared.Solved.{Solved}
@@ -25,3 +27,15 @@ pub record SolvedBy (outcome : Outcome TreeEntry) (room : ℕ) (addresses codes 
   pub most : r .count ≤ 241
   pub fits : r .count ≤ room
   pub held : Held (outcome .written) (r .places) (r .count) addresses codes starts
+
+-- the capacity of four buffers that belong together
+abbrev pub least4 : List ℕ → List ℕ → List ℕ → List ℕ → ℕ
+least4 a b c d = min (min (length a) (length b)) (min (length c) (length d))
+
+-- the answer, and each buffer with its field of the entries written at its start and its own rest after it
+pub record TreeIn (outcome : Outcome TreeEntry) (levels addresses marks costs : List ℕ) (r : TreeAnswer) (levels′ addresses′ marks′ costs′ : List ℕ) : Type 0 where
+  pub numbers : numbersOfTree r ≡ outcome .numbers
+  pub in-levels : levels′ ≡ over (map level (outcome .written)) levels
+  pub in-addresses : addresses′ ≡ over (map address (outcome .written)) addresses
+  pub in-marks : marks′ ≡ over (map mark (outcome .written)) marks
+  pub in-costs : costs′ ≡ over (map cost (outcome .written)) costs

@@ -1,4 +1,8 @@
 // A request's tree in numbers: every check before 34, the tree worked out, and 34. `put` writes it field by field over the start of buffers.
+use crate::put::put_addresses;
+use crate::put::put_costs;
+use crate::put::put_levels;
+use crate::put::put_marks;
 use model::DomainIndex;
 use model::Limits;
 use model::NodeAddress;
@@ -10,13 +14,14 @@ use request::Query;
 use request::check_request;
 use vspt::work_out;
 ghost use mathlib.Core.Path.{_≡_};
+ghost use Prim.Native.Nat.{min};
 ghost use lib.ListN.{length};
 ghost use Rattle.model.specs.Profile.{version1};
 ghost use Rattle.model.specs.Calls.{buildTree, answerTree, roomVerdict};
 ghost use Rattle.model.specs.Tree.{tree};
 ghost use Rattle.request.specs.Checked.{requestOf};
 ghost use Rattle.request.specs.Query.{searchFor, Ready};
-ghost use Rattle.tree_fields.specs.Solved.{SolvedBy};
+ghost use Rattle.tree_fields.specs.Solved.{SolvedBy, least4, TreeIn};
 
 pub mod put;
 
@@ -115,4 +120,59 @@ pub fn solve(
     }
     let q = checked.query;
     solve_query(profile, exclude, q, room, addresses, reaches, starts)
+}
+
+// The lesser of two counts.
+fn lesser(a: usize, b: usize) -> usize
+    ensures { λ r. ⌜ r ≡ min a b ⌝ }
+{
+    if a <= b {
+        return a;
+    }
+    b
+}
+
+// The tree's fields in four lent buffers. On a refusal they keep what they held.
+pub fn tree_numbers(
+    profile: &[u8],
+    ingress: DomainIndex,
+    source: NodeAddress,
+    destination: NodeAddress,
+    include: &[u8],
+    exclude: &[u8],
+    limits: Limits,
+    level: &mut [u32],
+    address: &mut [u32],
+    reachable: &mut [u8],
+    cost: &mut [u32],
+) -> TreeAnswer
+    ensures { λ r. ⌜ TreeIn (buildTree (requestOf (now (profile .entry)) (ingress .0) (source .0) (destination .0) (now (include .entry)) (now (exclude .entry)) limits) (least4 (now (level .entry)) (now (address .entry)) (now (reachable .entry)) (now (cost .entry)))) (now (level .entry)) (now (address .entry)) (now (reachable .entry)) (now (cost .entry)) r (now (level .exit)) (now (address .exit)) (now (reachable .exit)) (now (cost .exit)) ⌝ }
+{
+    let mut addresses = [0u32; 242];
+    let mut reaches = [0u32; 242];
+    let mut starts = [0usize; 18];
+    let room = lesser(
+        lesser(level.len(), address.len()),
+        lesser(reachable.len(), cost.len()),
+    );
+    let solved = solve(
+        profile,
+        ingress,
+        source,
+        destination,
+        include,
+        exclude,
+        limits,
+        room,
+        &mut addresses,
+        &mut reaches,
+        &mut starts,
+    );
+    let answer = solved.answer;
+    let n = solved.count;
+    put_levels(&starts, solved.places, level);
+    put_addresses(&addresses, n, address);
+    put_marks(&reaches, n, reachable);
+    put_costs(&reaches, n, cost);
+    answer
 }

@@ -7,7 +7,7 @@ use Rattle.model.specs.Answers.{Numbers, numbersOfTree}
 use Rattle.model.specs.Calls.{Outcome, buildTree}
 use Rattle.request.specs.Bits.{limitsOfBits}
 use Rattle.request.specs.Checked.{requestOf}
-use Rattle.tree.specs.Trees.{least4, TreeIn}
+use Rattle.tree_fields.specs.Solved.{least4, TreeIn}
 use borrow.Author.Needs.{needs}
 use Rattle.calculator.proofs.yq_tree.Statement.{statement}
 use Rattle.calculator.proofs.yq_tree.Tie as tie

@@ -6,7 +6,8 @@ use Rattle.model.specs.declared.TreeEntry.{TreeEntry}
 use Rattle.model.specs.Calls.{buildTree}
 use Rattle.request.specs.Checked.{requestOf}
 use Rattle.tree_entries.specs.Entries.{entriesOf}
-use Rattle.tree.proofs.Entries.{entries-back, places-within, held-count, levels-over, addresses-over, marks-over, costs-over}
+use Rattle.tree_fields.proofs.Over.{places-within, held-count, levels-over, addresses-over, marks-over, costs-over}
+use Rattle.tree.proofs.Entries.{entries-back}
 use Rattle.tree.proofs.build.Statement.{statement}
 use Rattle.tree.proofs.build.Tie as tie
 

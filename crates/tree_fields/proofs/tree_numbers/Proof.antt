@@ -8,11 +8,10 @@ use lib.ListN.{length}
 use Rattle.model.specs.Request.{Request}
 use Rattle.model.specs.Calls.{buildTree}
 use Rattle.request.specs.Checked.{requestOf}
-use Rattle.tree_fields.specs.Solved.{SolvedBy}
-use Rattle.tree.specs.Trees.{least4}
-use Rattle.tree.proofs.Entries.{places-within, levels-over, addresses-over, marks-over, costs-over}
-use Rattle.tree.proofs.tree_numbers.Statement.{statement}
-use Rattle.tree.proofs.tree_numbers.Tie as tie
+use Rattle.tree_fields.specs.Solved.{SolvedBy, least4}
+use Rattle.tree_fields.proofs.Over.{places-within, levels-over, addresses-over, marks-over, costs-over}
+use Rattle.tree_fields.proofs.tree_numbers.Statement.{statement}
+use Rattle.tree_fields.proofs.tree_numbers.Tie as tie
 
 abbrev request : tie.Start → Request
 request c = requestOf (c .args .profile .now) (c .args .ingress .0) (c .args .source .0) (c .args .destination .0) (c .args .include .now) (c .args .exclude .now) (c .args .limits)
