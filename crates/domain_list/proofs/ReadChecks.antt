@@ -19,7 +19,7 @@ use Rattle.laws.proofs.Turns.{andThen-pass, refuseIf-pass}
 use Rattle.laws.proofs.Accepted.{accepted}
 use Rattle.laws.proofs.AreaLengths.{fits-short}
 use Rattle.refusal.specs.Refused.{refusal}
-use Rattle.sequence.specs.Found.{WholeDomains, ShortAreas}
+use Rattle.named_domains.specs.Found.{WholeDomains, ShortAreas}
 use Rattle.domain_list.specs.ReadInclude.{readVerdict}
 
 module _ (P : List ℕ) (i : ℕ) (L : List ℕ) where

@@ -3,8 +3,8 @@ use model::DomainIndex;
 use model::NodeAddress;
 use model::Refusal;
 use model::Verdict;
-use sequence::find::of_area;
-use sequence::find::of_system;
+use named_domains::of_area;
+use named_domains::of_system;
 use sequence::state::State;
 use sequence::state::Stepped;
 use sequence::state::Waiting;
@@ -25,7 +25,7 @@ ghost use Rattle.model.specs.Subobject.{formVerdict};
 ghost use Rattle.model.specs.Sequence.{readSystem, readNamed, areaNext, startIn, finish, meaning};
 ghost use Rattle.laws.proofs.Walk.{subobjectsLeft};
 ghost use Rattle.subobject.specs.Items.{namedOf, AreaInside};
-ghost use Rattle.sequence.specs.Found.{WholeDomains, ShortAreas};
+ghost use Rattle.named_domains.specs.Found.{WholeDomains, ShortAreas};
 ghost use Rattle.sequence.specs.Reading.{stateOf, waitingOf, Sound, StateIs, SteppedIs, MeaningIs};
 
 // An AS becomes current; unless an area follows at once it names its only domain.

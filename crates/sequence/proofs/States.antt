@@ -28,9 +28,9 @@ use Rattle.refusal.specs.Refused.{refusal}
 use Rattle.sequence.specs.declared.state.Waiting.{Waiting}
 use Rattle.sequence.specs.declared.state.Waiting.the-variants as Variant
 use Rattle.sequence.specs.declared.state.State.{State}
-use Rattle.sequence.specs.Found.{foundOf}
+use Rattle.named_domains.specs.Found.{foundOf}
 use Rattle.sequence.specs.Reading.{waitingOf, domainIn, nodeIn, stopOf, stopsOf, stateOf, Clean, Sound, StateIs, SteppedIs, nameFound}
-use Rattle.sequence.proofs.Hits.{count-snoc}
+use Rattle.named_domains.proofs.Hits.{count-snoc}
 
 pub map-agree : {A B : Type 0} (f g : A → B) (xs : List A) → ((x : A) → List·Memᴰ x xs → f x ≡ g x) → map f xs ≡ map g xs
 map-agree f g [] h = refl

@@ -11,8 +11,8 @@ use Rattle.model.specs.Sequence as M
 use Rattle.model.specs.WrittenList.{pinIf}
 use Rattle.model.specs.Request.{provided}
 use Rattle.model.specs.Calls.{pinMark, pinNode}
-use Rattle.sequence.specs.declared.find.Found.{Found}
-use Rattle.sequence.specs.declared.find.Found.the-variants as Found
+use Rattle.named_domains.specs.declared.Found.{Found}
+use Rattle.named_domains.specs.declared.Found.the-variants as Found
 use Rattle.sequence.specs.declared.state.Waiting.{Waiting}
 use Rattle.sequence.specs.declared.state.Waiting.the-variants as Waiting
 use Rattle.sequence.specs.declared.state.State.{State}

@@ -1,3 +1,2 @@
-// The parts of reading an include list: the domains that a subobject can mean, and the state of the reading with its steps.
-pub mod find;
+// The state of reading an include list, with its steps.
 pub mod state;

@@ -1,8 +1,8 @@
 // How far the reading of an include list is: the sequence so far and what waits. One step for each thing that a subobject can say.
-use crate::find::Found;
 use model::DomainIndex;
 use model::NodeAddress;
 use model::Verdict;
+use named_domains::Found;
 use refusal::refuse_at;
 ghost use mathlib.Core.Path.{_≡_};
 ghost use Prim.Native.Nat.{_≤_, _<_};

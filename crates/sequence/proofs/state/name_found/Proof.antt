@@ -1,7 +1,7 @@
 -- `state::name_found` meets its contract: each arm is a case of `nameFound`.
 use mathlib.Core.Path.{_≡_, refl, sym, ap, subst, _∙_}
 use Rattle.model.specs.Sequence as M
-use Rattle.sequence.specs.declared.find.Found.{Found}
+use Rattle.named_domains.specs.declared.Found.{Found}
 use Rattle.sequence.specs.Reading.{stateOf, SteppedIs, nameFound}
 use Rattle.sequence.proofs.States.{stepped-refused}
 use borrow.Author.Needs.{needs}

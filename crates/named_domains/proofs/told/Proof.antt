@@ -1,14 +1,14 @@
--- `find::told` meets its contract: the tests say how many there are.
+-- `named_domains::told` meets its contract: the tests say how many there are.
 use mathlib.Core.Path.{_≡_, refl, sym, ap}
 use mathlib.Core.List.{List}
 use Prim.Native.Nat.{ℕ, zero, suc}
 use native.Mathlib.Omega.{arith}
-use Rattle.sequence.specs.declared.find.Found.{Found}
-use Rattle.sequence.specs.declared.find.Found.the-variants.{Several}
-use Rattle.sequence.specs.Found.{foundAs}
+use Rattle.named_domains.specs.declared.Found.{Found}
+use Rattle.named_domains.specs.declared.Found.the-variants.{Several}
+use Rattle.named_domains.specs.Found.{foundAs}
 use borrow.Author.Needs.{needs}
-use Rattle.sequence.proofs.find.told.Statement.{statement}
-use Rattle.sequence.proofs.find.told.Tie as tie
+use Rattle.named_domains.proofs.told.Statement.{statement}
+use Rattle.named_domains.proofs.told.Tie as tie
 
 more : (n last : ℕ) → (n ≡ 0 → ⊥) → (n ≡ 1 → ⊥) → Several ≡ foundAs n last
 more zero last d e = absurd (d refl)

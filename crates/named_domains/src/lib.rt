@@ -10,7 +10,7 @@ ghost use lib.ListN.{length};
 ghost use Rattle.model.specs.Bytes.{part};
 ghost use Rattle.model.specs.Profile.{domains, domainAt, domainStart};
 ghost use Rattle.model.specs.Sequence.{ofSystem, ofArea};
-ghost use Rattle.sequence.specs.Found.{foundOf, foundAs, WholeDomains, ShortAreas, areaIs};
+ghost use Rattle.named_domains.specs.Found.{foundOf, foundAs, WholeDomains, ShortAreas, areaIs};
 
 // None, one (by its index) or several.
 pub enum Found {

@@ -1,4 +1,4 @@
--- `find::of_area` meets its contract. The loop's invariant: the records below i are scanned for the AS and the area. The measure is what is left.
+-- `named_domains::of_area` meets its contract. The loop's invariant: the records below i are scanned for the AS and the area. The measure is what is left.
 use Prim.Native.Nat.{ℕ, _≤_, _<_, _-_, _+_}
 use mathlib.Core.Path.{_≡_, sym, ap, _∙_}
 use mathlib.Core.Logic.{⊎-elim}
@@ -8,10 +8,10 @@ use borrow.Author.Needs.{needs}
 use Rattle.model.specs.Bytes.{part}
 use Rattle.model.specs.Subobject.{Area}
 use Rattle.model.specs.Profile.{domainCount}
-use Rattle.sequence.specs.Found.{foundOf, areaIs}
-use Rattle.sequence.proofs.Hits.{Hits, hits-none, next-hit, next-miss, hits-found, area-scanned}
-use Rattle.sequence.proofs.find.of_area.Statement.{statement}
-use Rattle.sequence.proofs.find.of_area.Tie as tie
+use Rattle.named_domains.specs.Found.{foundOf, areaIs}
+use Rattle.named_domains.proofs.Hits.{Hits, hits-none, next-hit, next-miss, hits-found, area-scanned}
+use Rattle.named_domains.proofs.of_area.Statement.{statement}
+use Rattle.named_domains.proofs.of_area.Tie as tie
 
 abbrev areaOf : List ℕ → ℕ → ℕ → ℕ → Area
 areaOf list kind start count = record { kind = kind; bytes = part list start count }

@@ -17,7 +17,7 @@ use Rattle.model.specs.Subobject.{Area}
 use Rattle.model.specs.Sequence.{noDomain, domainOf, hasArea, ofSystem, ofArea}
 use Rattle.laws.proofs.Lists.{keep-append, keep-agree, countFrom-mem}
 use Rattle.laws.proofs.Records.{length-domains, domain-at}
-use Rattle.sequence.specs.Found.{foundOf, foundAs, systemIs, areaIs}
+use Rattle.named_domains.specs.Found.{foundOf, foundAs, systemIs, areaIs}
 
 pub count-snoc : (i n : ℕ) → countFrom i (suc n) ≡ countFrom i n ++ ((i + n) ∷ [])
 unfolding countFrom

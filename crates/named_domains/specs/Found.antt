@@ -7,8 +7,8 @@ use lib.Dec.{eqb}
 use Rattle.model.specs.Profile.{domainCount, domainStart, domainAt}
 use Rattle.model.specs.Subobject.{Area}
 use Rattle.model.specs.Sequence.{hasArea}
-use Rattle.sequence.specs.declared.find.Found.{Found}
-use Rattle.sequence.specs.declared.find.Found.the-variants.{Nothing, One, Several}
+use Rattle.named_domains.specs.declared.Found.{Found}
+use Rattle.named_domains.specs.declared.Found.the-variants.{Nothing, One, Several}
 
 -- a list of indexes, told by how many there are
 abbrev pub foundOf : List ℕ → Found

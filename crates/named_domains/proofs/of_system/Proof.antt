@@ -1,4 +1,4 @@
--- `find::of_system` meets its contract. The loop's invariant: the records below i are scanned for the AS. The measure is what is left.
+-- `named_domains::of_system` meets its contract. The loop's invariant: the records below i are scanned for the AS. The measure is what is left.
 use Prim.Native.Nat.{ℕ, _≤_, _<_, _-_, _+_, _*_}
 use mathlib.Core.Path.{_≡_, sym, ap, _∙_}
 use mathlib.Core.Logic.{⊎-elim}
@@ -6,10 +6,10 @@ use native.Mathlib.Omega.{arith}
 use borrow.Author.Needs.{needs}
 use lib.ListN.{length}
 use Rattle.model.specs.Profile.{domainCount}
-use Rattle.sequence.specs.Found.{foundOf, systemIs}
-use Rattle.sequence.proofs.Hits.{Hits, hits-none, next-hit, next-miss, hits-found, system-read, system-other, system-scanned}
-use Rattle.sequence.proofs.find.of_system.Statement.{statement}
-use Rattle.sequence.proofs.find.of_system.Tie as tie
+use Rattle.named_domains.specs.Found.{foundOf, systemIs}
+use Rattle.named_domains.proofs.Hits.{Hits, hits-none, next-hit, next-miss, hits-found, system-read, system-other, system-scanned}
+use Rattle.named_domains.proofs.of_system.Statement.{statement}
+use Rattle.named_domains.proofs.of_system.Tie as tie
 
 abbrev Inv-loop : tie.InvT-loop
 Inv-loop profile asn n hits₀ last₀ i₀ hits last i = (n ≡ domainCount profile) × Hits (systemIs profile asn) (domainCount profile) i hits last

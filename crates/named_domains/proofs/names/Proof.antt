@@ -1,11 +1,11 @@
--- `find::names` meets its contract: the record's AS decides, and then its area.
+-- `named_domains::names` meets its contract: the record's AS decides, and then its area.
 use mathlib.Core.Path.{_≡_, sym, ap, subst, _∙_}
 use Prim.Native.Nat.{ℕ, _≤_}
 use Rattle.model.specs.declared.Domain.{Domain}
-use Rattle.sequence.proofs.Hits.{area-other, area-here}
+use Rattle.named_domains.proofs.Hits.{area-other, area-here}
 use borrow.Author.Needs.{needs}
-use Rattle.sequence.proofs.find.names.Statement.{statement}
-use Rattle.sequence.proofs.find.names.Tie as tie
+use Rattle.named_domains.proofs.names.Statement.{statement}
+use Rattle.named_domains.proofs.names.Tie as tie
 
 domain-at-requires : tie.Need-domain-at-requires
 domain-at-requires c κs = search needs
