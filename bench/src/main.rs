@@ -1,6 +1,7 @@
 //! The proved library's calls beside the reference's, on the largest inputs:
 //! one line for each call and input.
 
+mod paths;
 mod race;
 mod tree;
 
@@ -13,6 +14,7 @@ fn main() {
     read_include();
     write_list();
     tree::tree();
+    paths::first_and_next();
 }
 
 fn check_profile() {

@@ -5,8 +5,10 @@
 
 pub mod compare;
 pub mod lists;
+pub mod paths;
 mod request;
 pub mod rows;
+pub mod series;
 pub mod stack;
 pub mod tree;
 pub mod wrong;
