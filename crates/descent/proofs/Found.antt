@@ -30,7 +30,7 @@ use Rattle.laws.proofs.Split.{shortestHops, behindFirst, firstFrom, first-split
 use Rattle.laws.proofs.NextSplit.{nextAfter, next-after}
 use Rattle.request.specs.declared.Query.{Query}
 use Rattle.request.specs.Query.{stopsOf}
-use Rattle.vspt.specs.Reaches.{unreachable, codeIf, codeAt}
+use Rattle.reaches.specs.Reaches.{unreachable, codeIf, codeAt}
 use Rattle.vspt.proofs.Filled.{paste-one}
 use Rattle.vspt.proofs.Sequences.{stops-long}
 use Rattle.onward.specs.declared.Heads.{Heads}

@@ -22,9 +22,9 @@ use Rattle.model.specs.Tree.{entriesAt}
 use Rattle.laws.proofs.Accepted.{accepted}
 use Rattle.laws.proofs.EntryNodes.{entryNodes-bound}
 use Rattle.hop_range.specs.Ranges.{PairRange}
-use Rattle.levels.specs.Entries.{placed, headsOf}
+use Rattle.level_entries.specs.Entries.{placed, headsOf}
 use Rattle.levels.specs.Levels.{nodesIf, nodesAt, nodesUpTo, startOf, Several, Covers, Room, Noted, LaidOut}
-use Rattle.levels.proofs.Placing.{take-placed, length-placed}
+use Rattle.level_entries.proofs.Placing.{take-placed, length-placed}
 use Rattle.levels.proofs.Legs.{noIndex, neighbours-apart, count-is, leg-noted, last-noted, tallyUpTo, tally-none, tally-next, tally-all, leg-tally}
 use Rattle.levels.proofs.Blocks.{each-next}
 

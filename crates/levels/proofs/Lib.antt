@@ -1,6 +1,4 @@
 -- What the proofs of several functions share, a module to a subject; and for callers how a place's nodes are read.
-mod Placing
-mod Held
 pub mod Legs
 mod Filling
 pub mod Blocks

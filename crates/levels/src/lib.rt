@@ -1,7 +1,7 @@
 // The entries of the tree, place by place of the sequence of domains, ascending; the hop records of each leg, and their number (document 01's tally).
-use crate::heads::collect;
 use hop_range::HopRange;
 use hop_range::pair_range;
+use level_entries::heads::collect;
 use model::DomainIndex;
 use model::NodeAddress;
 use records::layout::Layout;
@@ -12,9 +12,6 @@ ghost use Rattle.model.specs.Profile.{profileVerdict};
 ghost use Rattle.model.specs.Request.{Search};
 ghost use Rattle.records.specs.Layout.{layoutOf, Sound};
 ghost use Rattle.levels.specs.Levels.{Several, Covers, Room, Noted, LaidOut};
-
-pub mod entries;
-pub mod heads;
 
 // The hop records of leg i, from one domain to another.
 fn note_leg(

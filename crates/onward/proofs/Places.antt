@@ -20,7 +20,7 @@ use Rattle.levels.proofs.Blocks.{each-block, place-nodes}
 use Rattle.request.specs.declared.Query.{Query}
 use Rattle.request.specs.Query.{domainAt}
 use Rattle.vspt.specs.Leg.{nextPlace}
-use Rattle.vspt.specs.Reaches.{codeAt, Small, beside, NextPlace}
+use Rattle.reaches.specs.Reaches.{codeAt, Small, beside, NextPlace}
 use Rattle.vspt.specs.Tree.{codesFrom, WorkedOut}
 use Rattle.vspt.proofs.Filled.{level-long, codes-long}
 use Rattle.vspt.proofs.Known.{beside-any, code-small}

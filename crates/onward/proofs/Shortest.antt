@@ -27,8 +27,8 @@ use Rattle.hop_range.specs.Ranges.{leavesNode, TailRange}
 use Rattle.request.specs.declared.Query.{Query}
 use Rattle.request.specs.Query.{domainAt}
 use Rattle.vspt.specs.Leg.{nextPlace}
-use Rattle.vspt.specs.Reaches.{codeIf, codeOf, reachOf, codeAt, beside}
-use Rattle.vspt.proofs.Codes.{code-reach}
+use Rattle.reaches.specs.Reaches.{codeIf, codeOf, reachOf, codeAt, beside}
+use Rattle.reaches.proofs.Codes.{code-reach}
 use Rattle.vspt.proofs.Known.{code-is, cost-bound, reach-back, head-known}
 use Rattle.onward.specs.declared.Heads.{Heads}
 use Rattle.onward.specs.declared.Onward.{Onward}

@@ -14,7 +14,7 @@ use Rattle.model.specs.Profile.{Layout, hopCount, hopAt, hops}
 use Rattle.model.specs.Floats.{atLeast}
 use Rattle.laws.proofs.Records.{hop-at, length-hops}
 use Rattle.laws.proofs.Split.{onShortest}
-use Rattle.vspt.specs.Reaches.{reachOf, beside}
+use Rattle.reaches.specs.Reaches.{reachOf, beside}
 use Rattle.onward.specs.declared.Heads.{Heads}
 use Rattle.onward.specs.Onward.{isWanted, isTaken}
 

@@ -13,7 +13,7 @@ use Rattle.model.specs.Floats.{atLeast}
 use Rattle.model.specs.Request.{Search}
 use Rattle.model.specs.Path.{Leg, legs, legAt}
 use Rattle.laws.proofs.Split.{onShortest, shortestHops}
-use Rattle.vspt.specs.Reaches.{reachOf, beside}
+use Rattle.reaches.specs.Reaches.{reachOf, beside}
 use Rattle.onward.specs.declared.Heads.{Heads}
 use Rattle.onward.specs.declared.Heads.the-variants.{Any, Only, Above}
 use Rattle.onward.specs.declared.Onward.{Onward}

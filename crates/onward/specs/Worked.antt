@@ -11,7 +11,7 @@ use Rattle.model.specs.Request.{Search}
 use Rattle.records.specs.Layout.{Sound}
 use Rattle.request.specs.declared.Query.{Query}
 use Rattle.request.specs.Query.{stopsOf}
-use Rattle.vspt.specs.Reaches.{unreachable, codeAt}
+use Rattle.reaches.specs.Reaches.{unreachable, codeAt}
 use Rattle.vspt.specs.Tree.{WorkedOut}
 
 -- a right profile, a query and the five lists of the tree, for one search

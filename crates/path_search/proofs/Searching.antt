@@ -35,11 +35,11 @@ use Rattle.records.specs.Layout.{Sound}
 use Rattle.levels.specs.Levels.{nodesIf, nodesAt, nodesUpTo, startOf}
 use Rattle.request.specs.declared.Query.{Query}
 use Rattle.request.specs.Query.{stopsOf, searchFor, Ready}
-use Rattle.vspt.specs.Reaches.{unreachable, codeIf, codeOf, codeAt}
+use Rattle.reaches.specs.Reaches.{unreachable, codeIf, codeOf, codeAt}
 use Rattle.vspt.specs.Tree.{WorkedOut}
 use Rattle.vspt.proofs.Known.{code-is, cost-bound}
 use Rattle.vspt.proofs.Filled.{pasted}
-use Rattle.vspt.proofs.Places.{slice-at}
+use Rattle.reaches.proofs.Places.{slice-at}
 use Rattle.vspt.proofs.Sequences.{stops-long}
 use Rattle.onward.proofs.Places.{place-codes}
 use Rattle.onward.specs.Worked.{Worked, Stands}

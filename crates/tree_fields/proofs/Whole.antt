@@ -23,7 +23,7 @@ use Rattle.laws.proofs.TreeLeast.{entry-is}
 use Rattle.levels.specs.Levels.{nodesIf, nodesAt, nodesUpTo, startOf, LaidOut}
 use Rattle.levels.proofs.Blocks.{each-next}
 use Rattle.levels.proofs.Legs.{tallyUpTo, tally-none, tally-next, tally-all, leg-tally}
-use Rattle.vspt.specs.Reaches.{codeAt}
+use Rattle.reaches.specs.Reaches.{codeAt}
 use Rattle.vspt.specs.Tree.{codesFrom, WorkedOut}
 use Rattle.vspt.proofs.Filled.{level-long, codes-long, end-nodes}
 use Rattle.vspt.proofs.Known.{reach-back}

@@ -6,7 +6,7 @@ use mathlib.Core.List.{List}
 use lib.ListN.{length, getD, replicate}
 use Rattle.model.specs.declared.TreeEntry.{TreeEntry}
 use Rattle.model.specs.Lists.{countFrom, each}
-use Rattle.vspt.specs.Reaches.{reachOf}
+use Rattle.reaches.specs.Reaches.{reachOf}
 
 -- ---- the fields: an entry's mark is 1 where it is reachable, else 0
 

@@ -1,5 +1,5 @@
 // The tree that was worked out, field by field over the start of buffers: levels, addresses, marks and costs.
-use vspt::reach::UNREACHABLE;
+use reaches::UNREACHABLE;
 ghost use mathlib.Core.Path.{_≡_};
 ghost use mathlib.Core.List.{map};
 ghost use Prim.Native.Nat.{_≤_, _-_};

@@ -13,9 +13,9 @@ use Rattle.model.specs.Lists.{countFrom, each}
 use Rattle.model.specs.Request.{Search}
 use Rattle.levels.specs.Levels.{nodesIf, nodesAt, nodesUpTo, startOf}
 use Rattle.levels.proofs.Blocks.{each-add}
-use Rattle.vspt.specs.Reaches.{codeAt}
+use Rattle.reaches.specs.Reaches.{codeAt}
 use Rattle.vspt.specs.Tree.{codesFrom, filledFrom}
-use Rattle.vspt.proofs.Entries.{slice-by-drop}
+use Rattle.tree_step.proofs.Entries.{slice-by-drop}
 
 module _ {A : Type 0} where
   -- all of a list written over another

@@ -17,10 +17,10 @@ use Rattle.levels.specs.Levels.{nodesAt, startOf}
 use Rattle.levels.proofs.Blocks.{place-nodes}
 use Rattle.request.specs.declared.Query.{Query}
 use Rattle.request.specs.Query.{searchFor, Ready}
-use Rattle.vspt.specs.declared.step.Leg.{Leg}
+use Rattle.tree_step.specs.declared.Leg.{Leg}
 use Rattle.vspt.specs.Leg.{LegIs}
-use Rattle.vspt.specs.Reaches.{unreachable, codeIf, codeAt, Small, beside, NextPlace}
-use Rattle.vspt.specs.Step.{levelCodes}
+use Rattle.reaches.specs.Reaches.{unreachable, codeIf, codeAt, Small, beside, NextPlace}
+use Rattle.tree_step.specs.Step.{levelCodes}
 use Rattle.vspt.specs.Tree.{codesFrom, filledFrom, LaidOutFor}
 use Rattle.vspt.proofs.Filled.{level-long, codes-long, end-nodes, filled-end, filled-more, filled-first, filled-long}
 use Rattle.vspt.proofs.Known.{beside-any, code-small, end-code}

@@ -24,8 +24,8 @@ use Rattle.laws.proofs.SuffixTotals.{suffix-total-bound}
 use Rattle.laws.proofs.Reach.{Reach, unreached, arrived, leastFrom, reachIf, leastFrom-nil, leastFrom-some, leastFrom-unreached}
 use Rattle.laws.proofs.TreeLeast.{entry-is, entryOf, place-end}
 use Rattle.levels.specs.Levels.{nodesIf, nodesAt}
-use Rattle.vspt.specs.Reaches.{unreachable, codeIf, codeOf, reachOf, codeAt, Small, besideIf, beside}
-use Rattle.vspt.proofs.Codes.{reach-none, reach-some}
+use Rattle.reaches.specs.Reaches.{unreachable, codeIf, codeOf, reachOf, codeAt, Small, besideIf, beside}
+use Rattle.reaches.proofs.Codes.{reach-none, reach-some}
 
 -- ---- what stands beside, among numbers that a function gives
 

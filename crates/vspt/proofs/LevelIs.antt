@@ -25,10 +25,10 @@ use Rattle.laws.proofs.Reach.{Reach, unreached, leastFrom, reachIf, via, bestFr
 use Rattle.laws.proofs.TreeLeast.{place-step}
 use Rattle.hop_range.specs.Ranges.{leavesNode}
 use Rattle.levels.specs.Levels.{nodesAt, startOf}
-use Rattle.vspt.specs.declared.step.Leg.{Leg}
+use Rattle.tree_step.specs.declared.Leg.{Leg}
 use Rattle.vspt.specs.Leg.{LegIs}
-use Rattle.vspt.specs.Reaches.{codeOf, reachOf, codeAt, beside, wayOn}
-use Rattle.vspt.specs.Step.{allowedBy, entryReach, entryCode, levelCodes}
+use Rattle.reaches.specs.Reaches.{codeOf, reachOf, codeAt, beside, wayOn}
+use Rattle.tree_step.specs.Step.{allowedBy, entryReach, entryCode, levelCodes}
 use Rattle.vspt.proofs.Known.{code-is, head-known}
 
 module _

@@ -1,8 +1,4 @@
 -- What the proofs of several functions share, a module to a subject.
-pub mod Codes
-pub mod Places
-pub mod Hops
-pub mod Entries
 pub mod Known
 pub mod LevelIs
 pub mod Sequences

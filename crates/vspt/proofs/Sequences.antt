@@ -31,7 +31,7 @@ use Rattle.levels.proofs.Legs.{leg-on, leg-last}
 use Rattle.request.specs.declared.Query.{Query}
 use Rattle.request.specs.Query.{stopOf, stopsOf, searchFor, Ready}
 use Rattle.request.specs.Query as Q
-use Rattle.vspt.specs.declared.step.Leg as Coded
+use Rattle.tree_step.specs.declared.Leg as Coded
 use Rattle.vspt.specs.Leg.{nextIf, nextPlace, LegIs, LegFor}
 
 -- ---- a query's sequence by index

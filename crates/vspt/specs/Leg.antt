@@ -12,7 +12,7 @@ use Rattle.model.specs.Path.{legAt, stopAt}
 use Rattle.model.specs.WrittenList.{pinIf}
 use Rattle.hop_range.specs.Ranges.{PairRange}
 use Rattle.levels.specs.Levels.{startOf}
-use Rattle.vspt.specs.declared.step.Leg.{Leg}
+use Rattle.tree_step.specs.declared.Leg.{Leg}
 
 -- the place after place i of a sequence of so many: the next one, or, at the last, the same
 abbrev pub nextIf : Bool → ℕ → ℕ

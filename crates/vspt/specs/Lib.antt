@@ -1,4 +1,2 @@
-pub mod Reaches
-pub mod Step
 pub mod Leg
 pub mod Tree

@@ -10,7 +10,7 @@ use Rattle.model.specs.Profile.{Layout}
 use Rattle.levels.specs.Levels.{nodesAt, startOf, LaidOut}
 use Rattle.request.specs.declared.Query.{Query}
 use Rattle.request.specs.Query.{searchFor}
-use Rattle.vspt.specs.Reaches.{codeAt}
+use Rattle.reaches.specs.Reaches.{codeAt}
 
 -- the numbers of n places, from place i on
 unfoldable pub codesFrom : Search → ℕ → ℕ → List ℕ

@@ -1,16 +1,16 @@
 // The backward tree (RFC 5441's virtual shortest path tree): how each entry reaches the destination, from the last domain to the first.
-use crate::reach::UNREACHABLE;
-use crate::step::Leg;
-use crate::step::fill_level;
 use exclusion::excludes_domain;
 use exclusion::excludes_node;
 use hop_range::HopRange;
 use levels::lay_out;
 use model::DomainIndex;
 use model::NodeAddress;
+use reaches::UNREACHABLE;
 use records::domain::domain_at;
 use records::layout::Layout;
 use request::Query;
+use tree_step::Leg;
+use tree_step::fill_level;
 ghost use mathlib.Core.Path.{_≡_};
 ghost use mathlib.Core.Bool.{not};
 ghost use mathlib.Core.List.{List};
@@ -23,12 +23,9 @@ ghost use Rattle.model.specs.Subobject.{formVerdict, subobjects};
 ghost use Rattle.records.specs.Layout.{layoutOf, Sound};
 ghost use Rattle.levels.specs.Levels.{Room, LaidOut};
 ghost use Rattle.request.specs.Query.{searchFor, Ready};
-ghost use Rattle.vspt.specs.Reaches.{codeIf};
+ghost use Rattle.reaches.specs.Reaches.{codeIf};
 ghost use Rattle.vspt.specs.Leg.{nextPlace, LegFor};
 ghost use Rattle.vspt.specs.Tree.{filledFrom, LaidOutFor, WorkedOut};
-
-pub mod reach;
-pub mod step;
 
 // Behind the last domain: the destination reaches itself at no cost, unless it is excluded.
 fn arrival(exclude: &[u8], destination: NodeAddress) -> u32

@@ -11,7 +11,7 @@ use Rattle.model.specs.Profile.{hopCount}
 use Rattle.model.specs.Request.{Search}
 use Rattle.laws.proofs.BigEndian.{number-bound}
 use Rattle.records.specs.Layout.{layoutOf}
-use Rattle.levels.specs.Entries.{headsOf}
+use Rattle.level_entries.specs.Entries.{headsOf}
 use Rattle.levels.specs.Levels.{Covers, Room}
 use Rattle.levels.proofs.Legs.{count-is}
 use Rattle.levels.proofs.Filling.{Filled, filled-start, next-filled, last-filled, room-more, few-heads}

@@ -12,7 +12,7 @@ use Rattle.model.specs.Profile.{hops}
 use Rattle.records.specs.Layout.{layoutOf}
 use Rattle.hop_range.specs.Ranges.{PairRange, TailRange}
 use Rattle.request.specs.Query.{domainAt}
-use Rattle.vspt.specs.Reaches.{NextPlace}
+use Rattle.reaches.specs.Reaches.{NextPlace}
 use Rattle.onward.specs.Onward.{FirstTaken}
 use Rattle.onward.proofs.Places.{leg-range, next-place}
 use Rattle.onward.proofs.Shortest.{onward-is}

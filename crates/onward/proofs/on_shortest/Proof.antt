@@ -5,8 +5,8 @@ use Prim.Native.Nat.{ℕ, _+_, _≤_, _<_, _^_}
 use native.Mathlib.Omega.{arith}
 use borrow.Author.Needs.{needs}
 use Rattle.laws.proofs.Split.{onShortest}
-use Rattle.vspt.specs.Reaches.{unreachable, reachOf, Small}
-use Rattle.vspt.proofs.Codes.{reach-none, reach-some}
+use Rattle.reaches.specs.Reaches.{unreachable, reachOf, Small}
+use Rattle.reaches.proofs.Codes.{reach-none, reach-some}
 use Rattle.onward.proofs.on_shortest.Statement.{statement}
 use Rattle.onward.proofs.on_shortest.Tie as tie
 

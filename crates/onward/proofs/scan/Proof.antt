@@ -14,8 +14,8 @@ use Rattle.model.specs.Profile.{hopCount, hopAt, hops}
 use Rattle.laws.proofs.BigEndian.{number-bound}
 use Rattle.laws.proofs.Tests.{clash}
 use Rattle.records.specs.Layout.{layoutOf}
-use Rattle.vspt.specs.Reaches.{beside}
-use Rattle.vspt.proofs.Hops.{within, numeric, ranged, costs}
+use Rattle.reaches.specs.Reaches.{beside}
+use Rattle.reaches.proofs.Hops.{within, numeric, ranged, costs}
 use Rattle.onward.specs.Onward.{isTaken}
 use Rattle.onward.proofs.Turns.{first-here, first-later, first-of-none}
 use Rattle.onward.proofs.scan.Statement.{statement}

@@ -11,7 +11,7 @@ use Rattle.model.specs.Floats.{atLeast}
 use Rattle.laws.proofs.BoundExact.{bandwidth-exact}
 use Rattle.laws.proofs.Split.{onShortest}
 use Rattle.laws.proofs.Tests.{clash}
-use Rattle.vspt.specs.Reaches.{reachOf}
+use Rattle.reaches.specs.Reaches.{reachOf}
 use Rattle.onward.proofs.Turns.{too-narrow, not-wanted, costs-decide}
 use Rattle.onward.proofs.tried.Statement.{statement}
 use Rattle.onward.proofs.tried.Tie as tie

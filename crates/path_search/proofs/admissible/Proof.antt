@@ -5,7 +5,7 @@ use mathlib.Core.Bool.{Bool, true, false, not, _&&_}
 use native.Mathlib.Omega.{arith}
 use borrow.Author.Tests.{eq-eqb, ne-eqb}
 use Rattle.model.specs.Path.{keepsBound}
-use Rattle.vspt.specs.Reaches.{unreachable}
+use Rattle.reaches.specs.Reaches.{unreachable}
 use Rattle.path_search.proofs.admissible.Statement.{statement}
 use Rattle.path_search.proofs.admissible.Tie as tie
 use Rattle.path_search.proofs.admissible.Reads as reads

@@ -11,7 +11,7 @@ use borrow.Author.Tests.{not-true, not-false}
 use lib.ListN.{length, getD}
 use Rattle.records.specs.Layout.{layoutOf}
 use Rattle.request.specs.Query.{searchFor}
-use Rattle.vspt.specs.Reaches.{unreachable, codeAt}
+use Rattle.reaches.specs.Reaches.{unreachable, codeAt}
 use Rattle.onward.specs.Worked.{Worked}
 use Rattle.path_search.proofs.Searching.{worked-for, source-number, small, stands, some-way, sought-none, sought}
 use borrow.Author.Needs.{needs}

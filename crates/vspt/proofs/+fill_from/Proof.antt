@@ -19,7 +19,7 @@ use Rattle.vspt.proofs.fill_from.Kinds as fill-from-kinds
 use Rattle.vspt.proofs.+fill_from.Lts-fill_from as fill-from-lts
 use Rattle.vspt.proofs.arrival.Reads as arrival-reads
 use Rattle.vspt.proofs.leg_at.Reads as leg-at-reads
-use Rattle.vspt.proofs.step.fill_level.Reads as fill-level-reads
+use Rattle.tree_step.proofs.fill_level.Reads as fill-level-reads
 use Rattle.vspt.proofs.+fill_from.{statement}
 use Rattle.vspt.proofs.+fill_from.Tie.{close}
 

@@ -3,7 +3,7 @@
 use mathlib.Core.Path.{sym, ap, _∙_}
 use mathlib.Core.Bool.{Bool, not}
 use borrow.Author.Needs.{needs}
-use Rattle.vspt.specs.Reaches.{codeIf}
+use Rattle.reaches.specs.Reaches.{codeIf}
 use Rattle.vspt.proofs.arrival.Statement.{statement}
 use Rattle.vspt.proofs.arrival.Tie as tie
 

@@ -1,7 +1,7 @@
 -- `put::cost_of` meets its contract, by the one test.
 use mathlib.Core.Path.{sym, ap}
 use Rattle.laws.proofs.Reach.{Reach}
-use Rattle.vspt.proofs.Codes.{reach-none, reach-some}
+use Rattle.reaches.proofs.Codes.{reach-none, reach-some}
 use Rattle.tree_fields.proofs.put.cost_of.Statement.{statement}
 use Rattle.tree_fields.proofs.put.cost_of.Tie as tie
 

@@ -1,0 +1,123 @@
+// How one entry reaches the destination, by the hop records that leave it and what is known of the next place's entries.
+// A reach is one number: the least cost, or `UNREACHABLE`.
+use model::Hop;
+use model::NodeAddress;
+use records::hop::hop_at;
+use records::layout::Layout;
+ghost use mathlib.Core.Path.{_≡_};
+ghost use mathlib.Core.Bool.{true};
+ghost use Prim.Native.Nat.{ℕ, _≤_, _<_};
+ghost use lib.ListN.{length};
+ghost use lib.Seq.{slice};
+ghost use Rattle.model.specs.declared.Verdict.the-variants.{Pass};
+ghost use Rattle.model.specs.Floats.{inRange};
+ghost use Rattle.model.specs.Profile.{profileVerdict, hops, hopCount};
+ghost use Rattle.laws.proofs.Reach.{unreached, better, via, bestFrom};
+ghost use Rattle.records.specs.Layout.{layoutOf, Sound};
+ghost use Rattle.reaches.specs.Reaches.{codeOf, reachOf, Small, beside, placeIn, wayOn, NextPlace};
+
+pub const UNREACHABLE: u32 = 4294967295;
+
+// Where an address stands.
+pub enum Place {
+    At(usize),
+    Nowhere,
+}
+
+// The better of what was found so far and a hop of this cost with this reach behind it.
+fn relax(best: u32, cost: u32, there: u32) -> u32
+    requires { ⌜ (cost ≤ 65535) × Small there ⌝ }
+    ensures { λ r. ⌜ reachOf r ≡ better (reachOf best) (via cost (reachOf there)) ⌝ }
+{
+    if there == UNREACHABLE {
+        return best;
+    }
+    let new = cost + there;
+    if new < best {
+        return new;
+    }
+    best
+}
+
+// Where a node stands among the addresses from `from` up to `to`.
+pub fn find_entry(addresses: &[u32], from: usize, to: usize, node: NodeAddress) -> Place
+    requires { ⌜ (from ≤ to) × (to ≤ length (now addresses)) ⌝ }
+    ensures { λ r. ⌜ r ≡ placeIn from (slice from to (now (addresses .entry))) (node .0) ⌝ }
+{
+    let v = node.0;
+    let mut i = from;
+    while i < to {
+        if addresses[i] == v {
+            return Place::At(i);
+        }
+        i += 1;
+    }
+    Place::Nowhere
+}
+
+// The reach that stands beside a node.
+pub fn reach_of(
+    addresses: &[u32],
+    reaches: &[u32],
+    from: usize,
+    to: usize,
+    node: NodeAddress,
+) -> u32
+    requires { ⌜ (from ≤ to) × (to ≤ length (now addresses)) × (to ≤ length (now reaches)) ⌝ }
+    ensures { λ r. ⌜ r ≡ beside (slice from to (now (addresses .entry))) (slice from to (now (reaches .entry))) (node .0) ⌝ }
+{
+    let place = find_entry(addresses, from, to, node);
+    match place {
+        Place::At(i) => reaches[i],
+        Place::Nowhere => UNREACHABLE,
+    }
+}
+
+// The better of what was found so far and one hop record, where its bandwidth is enough.
+fn taken(
+    best: u32,
+    h: Hop,
+    asked: f32,
+    addresses: &[u32],
+    reaches: &[u32],
+    from: usize,
+    to: usize,
+) -> u32
+    requires { ⌜ (h .cost ≤ 65535) × (inRange asked ≡ true) × (inRange (h .bandwidth) ≡ true) ⌝ }
+    requires { ⌜ NextPlace (now addresses) (now reaches) from to ⌝ }
+    ensures { λ r. ⌜ reachOf r ≡ better (reachOf best) (wayOn asked (slice from to (now (addresses .entry))) (slice from to (now (reaches .entry))) h) ⌝ }
+{
+    if asked <= h.bandwidth {
+        let head = h.head;
+        let there = reach_of(addresses, reaches, from, to, head);
+        return relax(best, h.cost, there);
+    }
+    best
+}
+
+// The best of the hop records from `first` up to `last`, by what stands beside their heads among the next place's entries.
+pub fn best_from(
+    s: &[u8],
+    layout: Layout,
+    first: usize,
+    last: usize,
+    asked: f32,
+    addresses: &[u32],
+    reaches: &[u32],
+    from: usize,
+    to: usize,
+) -> u32
+    requires { ⌜ Sound (layoutOf layout) × (layoutOf layout .mostCost ≤ 65535) × (profileVerdict (layoutOf layout) (now s) ≡ Pass) ⌝ }
+    requires { ⌜ (first ≤ last) × (last ≤ hopCount (now s)) × (inRange asked ≡ true) ⌝ }
+    requires { ⌜ NextPlace (now addresses) (now reaches) from to ⌝ }
+    ensures { λ r. ⌜ reachOf r ≡ bestFrom unreached (wayOn asked (slice from to (now (addresses .entry))) (slice from to (now (reaches .entry)))) (slice first last (hops (layoutOf layout) (now (s .entry)))) ⌝ }
+{
+    let mut best = UNREACHABLE;
+    let mut i = first;
+    while i < last {
+        let h = hop_at(s, layout, i);
+        best = taken(best, h, asked, addresses, reaches, from, to);
+        i += 1;
+    }
+    best
+}

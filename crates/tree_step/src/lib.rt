@@ -1,0 +1,127 @@
+// One domain's step: the reaches of its entries, worked out from those of the next place.
+use exclusion::excludes_node;
+use hop_range::HopRange;
+use hop_range::tail_range;
+use model::DomainIndex;
+use model::NodeAddress;
+use reaches::UNREACHABLE;
+use reaches::best_from;
+use records::layout::Layout;
+ghost use mathlib.Core.Path.{_≡_};
+ghost use mathlib.Core.Bool.{true};
+ghost use Prim.Native.Nat.{_≤_, _-_};
+ghost use lib.Seq.{slice, paste};
+ghost use Rattle.model.specs.declared.ListKind.the-variants.{Exclude};
+ghost use Rattle.model.specs.declared.Verdict.the-variants.{Pass};
+ghost use Rattle.model.specs.Floats.{inRange};
+ghost use Rattle.model.specs.Path.{keepsPin};
+ghost use Rattle.model.specs.Profile.{profileVerdict};
+ghost use Rattle.model.specs.Subobject.{formVerdict};
+ghost use Rattle.model.specs.WrittenList.{pinIf};
+ghost use Rattle.records.specs.Layout.{layoutOf, Sound};
+ghost use Rattle.hop_range.specs.Ranges.{PairRange};
+ghost use Rattle.reaches.specs.Reaches.{reachOf, NextPlace};
+ghost use Rattle.tree_step.specs.Step.{allowedBy, entryReach, levelCodes};
+
+// A leg of the sequence as a step needs it: its two domains and their hop records; whether the first is excluded and its entry constraint; where
+// its entries start, where those of the next place start, and where these end.
+pub struct Leg {
+    pub from: DomainIndex,
+    pub to: DomainIndex,
+    pub hops: HopRange,
+    pub excluded: bool,
+    pub pinned: u8,
+    pub pin: NodeAddress,
+    pub start: usize,
+    pub next: usize,
+    pub end: usize,
+}
+
+// The entry constraint, if there is one, is kept by a node.
+fn keeps_pin(pinned: u8, pin: NodeAddress, node: NodeAddress) -> bool
+    ensures { λ r. ⌜ r ≡ keepsPin (pinIf pinned (pin .0)) (node .0) ⌝ }
+{
+    if pinned == 0 {
+        return true;
+    }
+    node.0 == pin.0
+}
+
+// A node may be an entry of the leg's domain.
+fn allowed_at(exclude: &[u8], leg: Leg, node: NodeAddress) -> bool
+    requires { ⌜ formVerdict Exclude (now exclude) ≡ Pass ⌝ }
+    ensures { λ r. ⌜ r ≡ allowedBy (now (exclude .entry)) (leg .excluded) (leg .pinned) (leg .pin .0) (node .0) ⌝ }
+{
+    if leg.excluded {
+        return false;
+    }
+    let pin = leg.pin;
+    if !keeps_pin(leg.pinned, pin, node) {
+        return false;
+    }
+    !excludes_node(exclude, node)
+}
+
+// How one entry reaches the destination.
+fn entry_reach(
+    s: &[u8],
+    layout: Layout,
+    exclude: &[u8],
+    leg: Leg,
+    asked: f32,
+    node: NodeAddress,
+    addresses: &[u32],
+    reaches: &[u32],
+) -> u32
+    requires { ⌜ Sound (layoutOf layout) × (layoutOf layout .mostCost ≤ 65535) × (profileVerdict (layoutOf layout) (now s) ≡ Pass) ⌝ }
+    requires { ⌜ (formVerdict Exclude (now exclude) ≡ Pass) × (inRange asked ≡ true) ⌝ }
+    requires { ⌜ PairRange (layoutOf layout) (now s) (leg .from .0) (leg .to .0) (leg .hops .first) (leg .hops .last) ⌝ }
+    requires { ⌜ NextPlace (now addresses) (now reaches) (leg .next) (leg .end) ⌝ }
+    ensures { λ r. ⌜ reachOf r ≡ entryReach (layoutOf layout) (now (s .entry)) (now (exclude .entry)) leg asked (slice (leg .next) (leg .end) (now (addresses .entry))) (slice (leg .next) (leg .end) (now (reaches .entry))) (node .0) ⌝ }
+{
+    if !allowed_at(exclude, leg, node) {
+        return UNREACHABLE;
+    }
+    let from = leg.from;
+    let to = leg.to;
+    let hops = leg.hops;
+    let range = tail_range(s, layout, hops, from, to, node);
+    best_from(
+        s,
+        layout,
+        range.first,
+        range.last,
+        asked,
+        addresses,
+        reaches,
+        leg.next,
+        leg.end,
+    )
+}
+
+// The reaches of one domain's entries, from those of the next place. No others change.
+pub fn fill_level(
+    s: &[u8],
+    layout: Layout,
+    exclude: &[u8],
+    leg: Leg,
+    asked: f32,
+    addresses: &[u32],
+    reaches: &mut [u32],
+)
+    requires { ⌜ Sound (layoutOf layout) × (layoutOf layout .mostCost ≤ 65535) × (profileVerdict (layoutOf layout) (now s) ≡ Pass) ⌝ }
+    requires { ⌜ (formVerdict Exclude (now exclude) ≡ Pass) × (inRange asked ≡ true) ⌝ }
+    requires { ⌜ PairRange (layoutOf layout) (now s) (leg .from .0) (leg .to .0) (leg .hops .first) (leg .hops .last) ⌝ }
+    requires { ⌜ (leg .start ≤ leg .next) × NextPlace (now addresses) (now reaches) (leg .next) (leg .end) ⌝ }
+    ensures { λ _. ⌜ now (reaches .exit) ≡ paste (now (reaches .entry)) (leg .start) (levelCodes (layoutOf layout) (now (s .entry)) (now (exclude .entry)) leg asked (now (addresses .entry)) (now (reaches .entry))) (leg .next - leg .start) ⌝ }
+{
+    let start = leg.start;
+    let count = leg.next - start;
+    let mut j: usize = 0;
+    while j < count {
+        let node = NodeAddress(addresses[start + j]);
+        let r = entry_reach(s, layout, exclude, leg, asked, node, addresses, &*reaches);
+        reaches[start + j] = r;
+        j += 1;
+    }
+}
