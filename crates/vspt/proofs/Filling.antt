@@ -6,7 +6,7 @@ use mathlib.Core.List.{List, map, List·Memᴰ}
 use Prim.Native.Nat.{ℕ, zero, suc, _+_, _-_, _≤_, _<_}
 use native.Mathlib.Omega.{arith}
 use lib.ListN.{length, take, getD, set, length-map, length-take}
-use lib.Seq.{slice, paste, length-slice}
+use lib.Seq.{slice, paste, length-paste}
 use Rattle.model.specs.declared.Hop.{Hop}
 use Rattle.model.specs.Profile.{Layout, hops}
 use Rattle.model.specs.Subobject.{subobjects}
@@ -21,7 +21,7 @@ use Rattle.tree_step.specs.declared.Leg.{Leg}
 use Rattle.vspt.specs.Leg.{LegIs}
 use Rattle.reaches.specs.Reaches.{unreachable, codeIf, codeAt, Small, beside, NextPlace}
 use Rattle.tree_step.specs.Step.{levelCodes}
-use Rattle.vspt.specs.Tree.{codesFrom, filledFrom, LaidOutFor}
+use Rattle.vspt.specs.Tree.{Holds, filledAt, codesFrom, filledFrom, LaidOutFor}
 use Rattle.vspt.proofs.Filled.{level-long, codes-long, end-nodes, filled-end, filled-more, filled-first, filled-long}
 use Rattle.vspt.proofs.Known.{beside-any, code-small, end-code}
 use Rattle.vspt.proofs.LevelIs.{level-codes-is}
@@ -76,62 +76,66 @@ module _
         ap₂ (set d) at (v ∙ sym (end-code S few cheap) ∙ ap (λ (k : ℕ). codeAt S k (S .destination)) (sym n))
         ∙ filled-end S i d n (omega (arith, end-inside i e))
 
+    -- ---- one place, from the one after it
+
+    module _ (i : ℕ) (h : i < q .count) (mid : List ℕ) (long : length mid ≡ 242) (holds : Holds S (suc i) mid) (leg : Leg) (is : LegIs S i leg) where
+      here-nodes : slice (leg .start) (leg .next) addresses ≡ nodesAt S i
+      here-nodes =
+          (λ j. slice (is .start-is j) (is .next-is j) addresses)
+          ∙ place-nodes S L s addresses starts firsts lasts (out .examined) (out .laid) i (omega (arith, stops-long q))
+
+      next-nodes : slice (leg .next) (leg .end) addresses ≡ nodesAt S (suc i)
+      next-nodes =
+          (λ j. slice (is .next-is j) (is .end-is j) addresses)
+          ∙ place-nodes S L s addresses starts firsts lasts (out .examined) (out .laid) (suc i) (omega (arith, stops-long q))
+
+      known : slice (leg .next) (leg .end) mid ≡ map (codeAt S (suc i)) (nodesAt S (suc i))
+      known = (λ j. slice (is .next-is j) (is .end-is j) mid) ∙ holds
+
+      pub in-order : leg .start ≤ leg .next
+      in-order = let a = is .start-is in let b = is .next-is in omega (arith, later i)
+
+      pub next-place : NextPlace addresses mid (leg .next) (leg .end)
+      next-place =
+          let a = is .next-is in
+          let b = is .end-is in
+          let last = starts-by (suc (suc i)) (omega arith) in
+          record {
+            order = omega (arith, later (suc i));
+            in-addresses = omega (arith, addresses-long, ends-by (suc (suc i)) (omega arith));
+            in-codes = omega arith;
+            small =
+                λ v.
+                subst Small (λ j. beside (sym next-nodes j) (sym known j) v)
+                (beside-any (codeAt S (suc i)) Small (λ k. absurd (omega arith)) (λ x. code-small S few cheap (suc i) x) (nodesAt S (suc i)) v);
+          }
+
+      pub placed
+          : (exit : List ℕ) → exit ≡ paste mid (leg .start) (levelCodes L s exclude leg (q .limits .bandwidth) addresses mid) (leg .next - leg .start)
+          → exit ≡ filledAt S i mid
+      placed exit e =
+          let codes = level-codes-is S L s exclude few cheap refl refl i (omega (arith, stops-long q)) leg is addresses mid here-nodes next-nodes known in
+          let count : leg .next - leg .start ≡ length (map (codeAt S i) (nodesAt S i)) = let a = is .start-is in let b = is .next-is in omega (arith, level-long S i) in
+          e ∙ (λ j. paste mid (is .start-is j) (codes j) (count j))
+
+    -- what is written keeps the length
+    pub placed-long : (i : ℕ) → i < q .count → (mid exit : List ℕ) → length mid ≡ 242 → exit ≡ filledAt S i mid → length exit ≡ length mid
+    placed-long i h mid exit long e =
+        ap length e
+        ∙ length-paste mid (startOf S i) (map (codeAt S i) (nodesAt S i)) (length (map (codeAt S i) (nodesAt S i)))
+        (omega (arith, level-long S i, starts-by (suc i) (omega arith))) (omega arith)
+
     -- ---- a place before those written
 
     module _ (i m : ℕ) (h : i + suc m ≡ q .count) (d mid : List ℕ) (long : length d ≡ 242) (written : mid ≡ filledFrom S (suc i) (suc m) d) where
-      at-end : startOf S (suc i + suc m) ≤ 242
-      at-end = starts-by (suc i + suc m) (omega arith)
-
       pub mid-long : length mid ≡ 242
-      mid-long = ap length written ∙ filled-long S (suc i) (suc m) d (omega (arith, at-end)) ∙ long
+      mid-long = ap length written ∙ filled-long S (suc i) (suc m) d (omega (arith, starts-by (suc i + suc m) (omega arith))) ∙ long
 
-      next-codes : slice (startOf S (suc i)) (startOf S (suc (suc i))) mid ≡ map (codeAt S (suc i)) (nodesAt S (suc i))
+      pub next-codes : Holds S (suc i) mid
       next-codes = ap (slice (startOf S (suc i)) (startOf S (suc (suc i)))) written ∙ filled-first S (suc i) m d (omega (arith, starts-by (suc i) (omega arith)))
 
-      module _ (leg : Leg) (is : LegIs S i leg) where
-        here-nodes : slice (leg .start) (leg .next) addresses ≡ nodesAt S i
-        here-nodes =
-            (λ j. slice (is .start-is j) (is .next-is j) addresses)
-            ∙ place-nodes S L s addresses starts firsts lasts (out .examined) (out .laid) i (omega (arith, stops-long q))
+      pub filled-step : (exit : List ℕ) → exit ≡ filledAt S i mid → exit ≡ filledFrom S i (suc (suc m)) d
+      filled-step exit e = e ∙ ap (filledAt S i) written ∙ filled-more S i (suc m) d (omega (arith, starts-by (suc i) (omega arith)))
 
-        next-nodes : slice (leg .next) (leg .end) addresses ≡ nodesAt S (suc i)
-        next-nodes =
-            (λ j. slice (is .next-is j) (is .end-is j) addresses)
-            ∙ place-nodes S L s addresses starts firsts lasts (out .examined) (out .laid) (suc i) (omega (arith, stops-long q))
-
-        known : slice (leg .next) (leg .end) mid ≡ map (codeAt S (suc i)) (nodesAt S (suc i))
-        known = (λ j. slice (is .next-is j) (is .end-is j) mid) ∙ next-codes
-
-        pub in-order : leg .start ≤ leg .next
-        in-order = let a = is .start-is in let b = is .next-is in omega (arith, later i)
-
-        pub next-place : NextPlace addresses mid (leg .next) (leg .end)
-        next-place =
-            let a = is .next-is in
-            let b = is .end-is in
-            let last = starts-by (suc (suc i)) (omega arith) in
-            record {
-              order = omega (arith, later (suc i));
-              in-addresses = omega (arith, addresses-long, ends-by (suc (suc i)) (omega arith));
-              in-codes = omega (arith, mid-long);
-              small =
-                  λ v.
-                  subst Small (λ j. beside (sym next-nodes j) (sym known j) v)
-                  (beside-any (codeAt S (suc i)) Small (λ k. absurd (omega arith)) (λ x. code-small S few cheap (suc i) x) (nodesAt S (suc i)) v);
-            }
-
-        pub filled-step
-            : (exit : List ℕ) → exit ≡ paste mid (leg .start) (levelCodes L s exclude leg (q .limits .bandwidth) addresses mid) (leg .next - leg .start)
-            → exit ≡ filledFrom S i (suc (suc m)) d
-        filled-step exit e =
-            let codes = level-codes-is S L s exclude few cheap refl refl i (omega (arith, stops-long q)) leg is addresses mid here-nodes next-nodes known in
-            let count : leg .next - leg .start ≡ length (map (codeAt S i) (nodesAt S i)) = let a = is .start-is in let b = is .next-is in omega (arith, level-long S i) in
-            e
-            ∙ (λ j. paste (written j) (is .start-is j) (codes j) (count j))
-            ∙ filled-more S i (suc m) d (omega (arith, starts-by (suc i) (omega arith)))
-
-      pub exit-long : (exit : List ℕ) → exit ≡ filledFrom S i (suc (suc m)) d → length exit ≡ length d
-      exit-long exit e =
-          let n : i + suc (suc m) ≡ suc i + suc m = omega arith in
-          let k = ap (startOf S) n in
-          ap length e ∙ filled-long S i (suc (suc m)) d (omega (arith, at-end))
+      pub exit-long : (exit : List ℕ) → exit ≡ filledAt S i mid → length exit ≡ length d
+      exit-long exit e = placed-long i (omega arith) mid exit mid-long e ∙ mid-long ∙ sym long

@@ -3,7 +3,7 @@ use mathlib.Core.List.{List, map}
 use Prim.Native.Nat.{ℕ, suc}
 use mathlib.Core.Path.{_≡_}
 use lib.ListN.{length, take}
-use lib.Seq.{paste}
+use lib.Seq.{slice, paste}
 use Rattle.model.specs.Lists.{countFrom, each}
 use Rattle.model.specs.Request.{Search}
 use Rattle.model.specs.Profile.{Layout}
@@ -19,6 +19,13 @@ codesFrom S i n = each (λ (j : ℕ). map (codeAt S j) (nodesAt S j)) (countFrom
 -- a list with these numbers written where place i starts; what stands before and behind them is untouched
 abbrev pub filledFrom : Search → ℕ → ℕ → List ℕ → List ℕ
 filledFrom S i n old = paste old (startOf S i) (codesFrom S i n) (length (codesFrom S i n))
+
+-- the numbers of one place stand where it starts; and a list with them written there
+abbrev pub Holds : Search → ℕ → List ℕ → Type 0
+Holds S i codes = slice (startOf S i) (startOf S (suc i)) codes ≡ map (codeAt S i) (nodesAt S i)
+
+abbrev pub filledAt : Search → ℕ → List ℕ → List ℕ
+filledAt S i old = paste old (startOf S i) (map (codeAt S i) (nodesAt S i)) (length (map (codeAt S i) (nodesAt S i)))
 
 -- what is laid out for a query
 pub record LaidOutFor (L : Layout) (s exclude : List ℕ) (q : Query) (addresses starts firsts lasts : List ℕ) : Type 0 where

@@ -25,7 +25,7 @@ ghost use Rattle.levels.specs.Levels.{Room, LaidOut};
 ghost use Rattle.request.specs.Query.{searchFor, Ready};
 ghost use Rattle.reaches.specs.Reaches.{codeIf};
 ghost use Rattle.vspt.specs.Leg.{nextPlace, LegFor};
-ghost use Rattle.vspt.specs.Tree.{filledFrom, LaidOutFor, WorkedOut};
+ghost use Rattle.vspt.specs.Tree.{Holds, filledAt, filledFrom, LaidOutFor, WorkedOut};
 
 // Behind the last domain: the destination reaches itself at no cost, unless it is excluded.
 fn arrival(exclude: &[u8], destination: NodeAddress) -> u32
@@ -87,6 +87,29 @@ fn leg_at(
     }
 }
 
+// The reaches of place i, from those of the place after it. Apart from the recursion, so that its leg isn't kept while the places behind it are worked out.
+fn fill_place(
+    s: &[u8],
+    layout: Layout,
+    exclude: &[u8],
+    q: Query,
+    i: usize,
+    addresses: &[u32; 242],
+    starts: &[usize; 18],
+    firsts: &[usize; 16],
+    lasts: &[usize; 16],
+    reaches: &mut [u32],
+)
+    requires { ⌜ Sound (layoutOf layout) × (layoutOf layout .mostCost ≤ 65535) × Ready (layoutOf layout) (now s) (now exclude) q × (i < q .count) ⌝ }
+    requires { ⌜ LaidOutFor (layoutOf layout) (now s) (now exclude) q (now addresses) (now starts) (now firsts) (now lasts) × (length (now reaches) ≡ 242) ⌝ }
+    requires { ⌜ Holds (searchFor (layoutOf layout) (now s) (now exclude) q) (suc i) (now reaches) ⌝ }
+    ensures { λ _. ⌜ now (reaches .exit) ≡ filledAt (searchFor (layoutOf layout) (now (s .entry)) (now (exclude .entry)) q) i (now (reaches .entry)) ⌝ }
+{
+    let leg = leg_at(s, layout, exclude, q, i, starts, firsts, lasts);
+    let asked = q.limits.bandwidth;
+    fill_level(s, layout, exclude, leg, asked, addresses, reaches);
+}
+
 // The reaches of the places from i on, `left` domains and the end behind them: the last first, each from the one after it.
 fn fill_from(
     s: &[u8],
@@ -124,9 +147,18 @@ fn fill_from(
         lasts,
         reaches,
     );
-    let leg = leg_at(s, layout, exclude, q, i, starts, firsts, lasts);
-    let asked = q.limits.bandwidth;
-    fill_level(s, layout, exclude, leg, asked, addresses, reaches);
+    fill_place(
+        s,
+        layout,
+        exclude,
+        q,
+        i,
+        addresses,
+        starts,
+        firsts,
+        lasts,
+        reaches,
+    );
 }
 
 // The whole tree of a query: its places' entries, and how each reaches the destination. The answer is how many hop records the legs have (the tally).
@@ -166,8 +198,20 @@ pub fn work_out(
         layout,
         exclude,
         q,
+        1,
+        count - 1,
+        &*addresses,
+        &*starts,
+        &*firsts,
+        &*lasts,
+        reaches,
+    );
+    fill_place(
+        s,
+        layout,
+        exclude,
+        q,
         0,
-        count,
         &*addresses,
         &*starts,
         &*firsts,

@@ -10,7 +10,7 @@ use lib.ListN.{length, getD, set, length-set}
 use Rattle.records.specs.Layout.{layoutOf}
 use Rattle.request.specs.Query.{searchFor}
 use Rattle.vspt.specs.Tree.{filledFrom}
-use Rattle.vspt.proofs.Filling.{end-inside, filled-last, mid-long, in-order, next-place, filled-step, exit-long}
+use Rattle.vspt.proofs.Filling.{end-inside, filled-last, mid-long, next-codes, filled-step, exit-long}
 use Prim.Native.Nat.{ℕ, _<_}
 use borrow.Fn.Kinds.{In}
 use borrow.Fn.PlainCycle.{Measures, is, falls, and}
@@ -18,8 +18,7 @@ use Rattle.vspt.proofs.fill_from.Reads as fill-from
 use Rattle.vspt.proofs.fill_from.Kinds as fill-from-kinds
 use Rattle.vspt.proofs.+fill_from.Lts-fill_from as fill-from-lts
 use Rattle.vspt.proofs.arrival.Reads as arrival-reads
-use Rattle.vspt.proofs.leg_at.Reads as leg-at-reads
-use Rattle.tree_step.proofs.fill_level.Reads as fill-level-reads
+use Rattle.vspt.proofs.fill_place.Reads as fill-place-reads
 use Rattle.vspt.proofs.+fill_from.{statement}
 use Rattle.vspt.proofs.+fill_from.Tie.{close}
 
@@ -35,7 +34,7 @@ fill-from-below t =
 
 -- what is known of the calls that it makes
 abbrev claims : ℕ → fill-from-lts.Claims
-claims t = (arrival-reads.Asked, arrival-reads.Learnt, fill-from-below t, fill-from.Post, leg-at-reads.Asked, leg-at-reads.Learnt, fill-level-reads.Asked, fill-level-reads.Learnt)
+claims t = (arrival-reads.Asked, arrival-reads.Learnt, fill-from-below t, fill-from.Post, fill-place-reads.Asked, fill-place-reads.Learnt)
 
 -- the last place's cell lies in the list
 inside : (t : ℕ) (c : fill-from-lts.Then1 (claims t) (fill-from-at t) fill-from.Post) → getD (c .before .before .before .before .args .starts .now) (c .before .before .before .before .args .i) 0 < 242
@@ -91,11 +90,6 @@ fill-from-fill-from-requires t c κs =
     let pre = start .pre .1 in
     (omega (arith, start .pre .0), ((pre .0 .0, pre .0 .1, pre .0 .2, omega (arith, pre .0 .3)), pre .1))
 
-fill-from-leg-at-requires : (t : ℕ) → fill-from-lts.Need-leg-at-requires (claims t) (fill-from-at t) fill-from.Post
-fill-from-leg-at-requires t c κs =
-    let pre = c .before .before .before .before .before .before .before .before .pre .1 in
-    (pre .0 .2, omega (arith, pre .0 .3))
-
 -- what the call before has written: the places behind this one
 written
     : (t : ℕ) (c : fill-from-lts.After-fill-from (claims t) (fill-from-at t) fill-from.Post)
@@ -108,69 +102,48 @@ written t c =
     c .fill-from .ensures
     ∙ ap (λ (n : ℕ). filledFrom (searchFor L (a .s .now) (a .exclude .now) (a .q)) n (suc (a .left - 1)) (a .reaches .now)) (add-one (a .i))
 
-fill-from-fill-level-requires : (t : ℕ) → fill-from-lts.Need-fill-level-requires (claims t) (fill-from-at t) fill-from.Post
-fill-from-fill-level-requires t c κs =
-    let start = c .before .before .before .before .before .before .before .before .before .before .before in
+fill-from-fill-place-requires : (t : ℕ) → fill-from-lts.Need-fill-place-requires (claims t) (fill-from-at t) fill-from.Post
+fill-from-fill-place-requires t c κs =
+    let start = c .before .before .before .before .before .before .before .before .before in
     let a = start .args in
     let pre = start .pre .1 in
-    let leg = c .before .before .leg-at in
-    let for = leg .ensures (a .addresses .now) (pre .1 .0 .examined) (pre .1 .0 .laid) in
-    let L = layoutOf (a .layout) in
-    let mid = c .before .before .before .before .before .fill-from .last .1 .1 .1 .1 .1 .1 .1 .1 .1 .1 .0 in
-    let w = written t (c .before .before .before .before .before) in
-    let some = c .before .before .before .before .before .before .before .if1 .left in
-    let count : a .i + suc (a .left - 1) ≡ a .q .count = omega (arith, pre .0 .3) in (
-      (pre .0 .0, pre .0 .1, pre .0 .2 .profile-right),
+    let some = c .before .before .before .before .before .if1 .left in
+    let count : a .i + suc (a .left - 1) ≡ a .q .count = omega (arith, pre .0 .3) in
+    let w = written t (c .before .before .before) in (
+      (pre .0 .0, pre .0 .1, pre .0 .2, omega arith),
       (
-        (pre .0 .2 .exclude-right, pre .0 .2 .bandwidth-right),
         (
-          for .range,
-          (
-            in-order L (a .s .now) (a .exclude .now) (a .q) (pre .0 .1) (pre .0 .2) (a .addresses .now) (a .starts .now) (a .firsts .now) (a .lasts .now) (pre .1 .0)
-                (a .i) (a .left - 1) count (a .reaches .now) mid (pre .1 .1) w (leg .result) (for .is),
-            next-place L (a .s .now) (a .exclude .now) (a .q) (pre .0 .1) (pre .0 .2) (a .addresses .now) (a .starts .now) (a .firsts .now) (a .lasts .now) (pre .1 .0)
-                (a .i) (a .left - 1) count (a .reaches .now) mid (pre .1 .1) w (leg .result) (for .is),
-          ),
+          pre .1 .0,
+          mid-long (layoutOf (a .layout)) (a .s .now) (a .exclude .now) (a .q) (pre .0 .1) (pre .0 .2) (a .addresses .now) (a .starts .now) (a .firsts .now) (a .lasts .now) (pre .1 .0)
+              (a .i) (a .left - 1) count (a .reaches .now) _ (pre .1 .1) w,
         ),
+        next-codes (layoutOf (a .layout)) (a .s .now) (a .exclude .now) (a .q) (pre .0 .1) (pre .0 .2) (a .addresses .now) (a .starts .now) (a .firsts .now) (a .lasts .now) (pre .1 .0)
+            (a .i) (a .left - 1) count (a .reaches .now) _ (pre .1 .1) w,
       ),
     )
 
--- the step before them writes one place more
-exit-is
-    : (t : ℕ) (c : fill-from-lts.After-slice-known3 (claims t) (fill-from-at t) fill-from.Post)
-    → c .before .before .fill-level .last .1 .1 .1 .1 .1 .1 .0
-    ≡ filledFrom (searchFor (layoutOf (c .before .before .before .before .before .before .before .before .before .before .before .before .before .before .args .layout)) (c .before .before .before .before .before .before .before .before .before .before .before .before .before .before .args .s .now) (c .before .before .before .before .before .before .before .before .before .before .before .before .before .before .args .exclude .now) (c .before .before .before .before .before .before .before .before .before .before .before .before .before .before .args .q))
-    (c .before .before .before .before .before .before .before .before .before .before .before .before .before .before .args .i) (suc (suc (c .before .before .before .before .before .before .before .before .before .before .before .before .before .before .args .left - 1))) (c .before .before .before .before .before .before .before .before .before .before .before .before .before .before .args .reaches .now)
-exit-is t c =
-    let start = c .before .before .before .before .before .before .before .before .before .before .before .before .before .before in
-    let a = start .args in
-    let pre = start .pre .1 in
-    let leg = c .before .before .before .before .before .leg-at in
-    let for = leg .ensures (a .addresses .now) (pre .1 .0 .examined) (pre .1 .0 .laid) in
-    let mid = c .before .before .before .before .before .before .before .before .fill-from .last .1 .1 .1 .1 .1 .1 .1 .1 .1 .1 .0 in
-    let w = written t (c .before .before .before .before .before .before .before .before) in
-    let some = c .before .before .before .before .before .before .before .before .before .before .if1 .left in
-    let count : a .i + suc (a .left - 1) ≡ a .q .count = omega (arith, pre .0 .3) in
-    filled-step (layoutOf (a .layout)) (a .s .now) (a .exclude .now) (a .q) (pre .0 .1) (pre .0 .2) (a .addresses .now) (a .starts .now) (a .firsts .now) (a .lasts .now) (pre .1 .0)
-    (a .i) (a .left - 1) count (a .reaches .now) mid (pre .1 .1) w (leg .result) (for .is) _ (c .before .before .fill-level .ensures)
-
 fill-from-same-length-2 : (t : ℕ) → fill-from-lts.Need-same-length-2 (claims t) (fill-from-at t) fill-from.Post
 fill-from-same-length-2 t c =
-    let start = c .before .before .before .before .before .before .before .before .before .before .before .before .before .before in
+    let start = c .before .before .before .before .before .before .before .before .before .before .before .before in
     let a = start .args in
     let pre = start .pre .1 in
-    let mid = c .before .before .before .before .before .before .before .before .fill-from .last .1 .1 .1 .1 .1 .1 .1 .1 .1 .1 .0 in
-    let some = c .before .before .before .before .before .before .before .before .before .before .if1 .left in
+    let some = c .before .before .before .before .before .before .before .before .if1 .left in
     let count : a .i + suc (a .left - 1) ≡ a .q .count = omega (arith, pre .0 .3) in
+    let w = written t (c .before .before .before .before .before .before) in
     exit-long (layoutOf (a .layout)) (a .s .now) (a .exclude .now) (a .q) (pre .0 .1) (pre .0 .2) (a .addresses .now) (a .starts .now) (a .firsts .now) (a .lasts .now) (pre .1 .0)
-    (a .i) (a .left - 1) count (a .reaches .now) mid (pre .1 .1) (written t (c .before .before .before .before .before .before .before .before)) _ (exit-is t c)
+    (a .i) (a .left - 1) count (a .reaches .now) _ (pre .1 .1) w _ (c .before .before .fill-place .ensures)
 
 fill-from-returns-2 : (t : ℕ) → fill-from-lts.Need-returns-2 (claims t) (fill-from-at t) fill-from.Post
 fill-from-returns-2 t c =
-    let a = c .before .before .before .before .before .before .before .before .before .before .before .before .before .before .args in
-    let some = c .before .before .before .before .before .before .before .before .before .before .if1 .left in
+    let start = c .before .before .before .before .before .before .before .before .before .before .before .before in
+    let a = start .args in
+    let pre = start .pre .1 in
+    let some = c .before .before .before .before .before .before .before .before .if1 .left in
+    let count : a .i + suc (a .left - 1) ≡ a .q .count = omega (arith, pre .0 .3) in
+    let w = written t (c .before .before .before .before .before .before) in
     let left : suc (suc (a .left - 1)) ≡ suc (a .left) = omega arith in
-    exit-is t c
+    filled-step (layoutOf (a .layout)) (a .s .now) (a .exclude .now) (a .q) (pre .0 .1) (pre .0 .2) (a .addresses .now) (a .starts .now) (a .firsts .now) (a .lasts .now) (pre .1 .0)
+    (a .i) (a .left - 1) count (a .reaches .now) _ (pre .1 .1) w _ (c .before .before .fill-place .ensures)
     ∙ ap (λ (n : ℕ). filledFrom (searchFor (layoutOf (a .layout)) (a .s .now) (a .exclude .now) (a .q)) (a .i) n (a .reaches .now)) left
 
 pub +fill-from-spec : {M : Type 1} → statement M
@@ -187,7 +160,6 @@ pub +fill-from-spec : {M : Type 1} → statement M
     (fill-from-add-fill-from t)
     (fill-from-sub-fill-from t)
     (fill-from-fill-from-requires t)
-    (fill-from-leg-at-requires t)
-    (fill-from-fill-level-requires t)
+    (fill-from-fill-place-requires t)
     (fill-from-same-length-2 t)
     (fill-from-returns-2 t)
