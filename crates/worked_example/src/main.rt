@@ -1,0 +1,137 @@
+// Prints what the calculator makes of document 01's profile W: the tree and the shortest paths of a request, then of one with a node excluded, then of one that is refused. The file `stdout` in the folder above is taken from document 01, not from a run.
+use crate::cases::A_LONGER_PATH;
+use crate::cases::BACK;
+use crate::cases::ONWARD;
+use crate::cases::PROFILE_W;
+use crate::cases::WITHOUT_Q;
+use crate::cases::destination;
+use crate::cases::ingress;
+use crate::cases::limits;
+use crate::cases::source;
+use crate::print::print_answer;
+use crate::print::print_entry;
+use crate::print::print_refusal;
+use crate::print::print_tally;
+use crate::print::text;
+use model::TreeAnswer;
+use paths::first;
+use paths::next;
+use paths::numbers::four_of;
+use tree_fields::tree_numbers;
+
+mod cases;
+mod print;
+
+fn print_entries(
+    entries: u32,
+    level: &[u32; 5],
+    address: &[u32; 5],
+    reachable: &[u8; 5],
+    cost: &[u32; 5],
+) {
+    let mut i = 0;
+    let mut left = entries;
+    while i < 5 && left > 0 {
+        print_entry(level[i], address[i], reachable[i], cost[i]);
+        i += 1;
+        left -= 1;
+    }
+}
+
+// The tree. On this profile it has at most five entries: S, P, Q, T and U.
+fn show_tree(include: &[u8], exclude: &[u8]) {
+    let mut level = [0u32; 5];
+    let mut address = [0u32; 5];
+    let mut reachable = [0u8; 5];
+    let mut cost = [0u32; 5];
+    let answer = tree_numbers(
+        &PROFILE_W,
+        ingress(),
+        source(),
+        destination(),
+        include,
+        exclude,
+        limits(),
+        &mut level,
+        &mut address,
+        &mut reachable,
+        &mut cost,
+    );
+    match answer {
+        TreeAnswer::Built { entries, tally } => {
+            print_tally(entries, tally);
+            print_entries(entries, &level, &address, &reachable, &cost);
+        }
+        TreeAnswer::Refused(r) => {
+            print_refusal(b"tree", r.number, r.place);
+        }
+    }
+}
+
+// The first path, into `path`; whether there is one.
+fn show_first(include: &[u8], exclude: &[u8], path: &mut [u32; 4]) -> bool {
+    let answer = first(
+        &PROFILE_W,
+        ingress(),
+        source(),
+        destination(),
+        include,
+        exclude,
+        limits(),
+        path,
+    );
+    print_answer(b"first", four_of(answer), *path)
+}
+
+// The path after a given list, into `path`; whether there is one.
+fn show_next(include: &[u8], exclude: &[u8], given: &[u32; 4], path: &mut [u32; 4]) -> bool {
+    let answer = next(
+        &PROFILE_W,
+        ingress(),
+        source(),
+        destination(),
+        include,
+        exclude,
+        limits(),
+        given,
+        path,
+    );
+    print_answer(b"next", four_of(answer), *path)
+}
+
+// First, then next until there is no other. A proved loop has to end: this one makes at most eight calls, more than the profile has paths.
+fn show_paths(include: &[u8], exclude: &[u8]) {
+    let mut path = [0u32; 4];
+    let mut more = show_first(include, exclude, &mut path);
+    let mut turns = 8u32;
+    while turns > 0 && more {
+        let given = path;
+        more = show_next(include, exclude, &given, &mut path);
+        turns -= 1;
+    }
+}
+
+// The path after one that isn't listed.
+fn show_next_after(include: &[u8], exclude: &[u8]) {
+    let mut path = [0u32; 4];
+    text(b"after 192.0.2.1 192.0.2.11 192.0.2.21 192.0.2.99, a longer path,\n");
+    show_next(include, exclude, &A_LONGER_PATH, &mut path);
+}
+
+fn show(title: &[u8], include: &[u8], exclude: &[u8]) {
+    text(title);
+    show_tree(include, exclude);
+    show_paths(include, exclude);
+    show_next_after(include, exclude);
+}
+
+fn main() {
+    let nothing = [0u8; 0];
+    show(
+        b"From 192.0.2.1 to 192.0.2.99 by AS 64496, 64497 and 64498, bandwidth 100\n",
+        &ONWARD,
+        &nothing,
+    );
+    show(b"\nThe same without 192.0.2.12\n", &ONWARD, &WITHOUT_Q);
+    show(b"\nBy AS 64496, 64497 and 64496 again\n", &BACK, &nothing);
+}
