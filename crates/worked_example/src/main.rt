@@ -39,13 +39,13 @@ fn print_entries(
 }
 
 // The tree. On this profile it has at most five entries: S, P, Q, T and U.
-fn show_tree(include: &[u8], exclude: &[u8]) {
+fn show_tree(profile: &[u8], include: &[u8], exclude: &[u8]) {
     let mut level = [0u32; 5];
     let mut address = [0u32; 5];
     let mut reachable = [0u8; 5];
     let mut cost = [0u32; 5];
     let answer = tree_numbers(
-        &PROFILE_W,
+        profile,
         ingress(),
         source(),
         destination(),
@@ -69,9 +69,9 @@ fn show_tree(include: &[u8], exclude: &[u8]) {
 }
 
 // The first path, into `path`; whether there is one.
-fn show_first(include: &[u8], exclude: &[u8], path: &mut [u32; 4]) -> bool {
+fn show_first(profile: &[u8], include: &[u8], exclude: &[u8], path: &mut [u32; 4]) -> bool {
     let answer = first(
-        &PROFILE_W,
+        profile,
         ingress(),
         source(),
         destination(),
@@ -84,9 +84,15 @@ fn show_first(include: &[u8], exclude: &[u8], path: &mut [u32; 4]) -> bool {
 }
 
 // The path after a given list, into `path`; whether there is one.
-fn show_next(include: &[u8], exclude: &[u8], given: &[u32; 4], path: &mut [u32; 4]) -> bool {
+fn show_next(
+    profile: &[u8],
+    include: &[u8],
+    exclude: &[u8],
+    given: &[u32; 4],
+    path: &mut [u32; 4],
+) -> bool {
     let answer = next(
-        &PROFILE_W,
+        profile,
         ingress(),
         source(),
         destination(),
@@ -100,38 +106,50 @@ fn show_next(include: &[u8], exclude: &[u8], given: &[u32; 4], path: &mut [u32; 
 }
 
 // First, then next until there is no other. A proved loop has to end: this one makes at most eight calls, more than the profile has paths.
-fn show_paths(include: &[u8], exclude: &[u8]) {
+fn show_paths(profile: &[u8], include: &[u8], exclude: &[u8]) {
     let mut path = [0u32; 4];
-    let mut more = show_first(include, exclude, &mut path);
+    let mut more = show_first(profile, include, exclude, &mut path);
     let mut turns = 8u32;
     while turns > 0 && more {
         let given = path;
-        more = show_next(include, exclude, &given, &mut path);
+        more = show_next(profile, include, exclude, &given, &mut path);
         turns -= 1;
     }
 }
 
 // The path after one that isn't listed.
-fn show_next_after(include: &[u8], exclude: &[u8]) {
+fn show_next_after(profile: &[u8], include: &[u8], exclude: &[u8]) {
     let mut path = [0u32; 4];
     text(b"after 192.0.2.1 192.0.2.11 192.0.2.21 192.0.2.99, a longer path,\n");
-    show_next(include, exclude, &A_LONGER_PATH, &mut path);
+    show_next(profile, include, exclude, &A_LONGER_PATH, &mut path);
 }
 
-fn show(title: &[u8], include: &[u8], exclude: &[u8]) {
+fn show(title: &[u8], profile: &[u8], include: &[u8], exclude: &[u8]) {
     text(title);
-    show_tree(include, exclude);
-    show_paths(include, exclude);
-    show_next_after(include, exclude);
+    show_tree(profile, include, exclude);
+    show_paths(profile, include, exclude);
+    show_next_after(profile, include, exclude);
 }
 
 fn main() {
+    let profile = PROFILE_W;
     let nothing = [0u8; 0];
     show(
         b"From 192.0.2.1 to 192.0.2.99 by AS 64496, 64497 and 64498, bandwidth 100\n",
+        &profile,
         &ONWARD,
         &nothing,
     );
-    show(b"\nThe same without 192.0.2.12\n", &ONWARD, &WITHOUT_Q);
-    show(b"\nBy AS 64496, 64497 and 64496 again\n", &BACK, &nothing);
+    show(
+        b"\nThe same without 192.0.2.12\n",
+        &profile,
+        &ONWARD,
+        &WITHOUT_Q,
+    );
+    show(
+        b"\nBy AS 64496, 64497 and 64496 again\n",
+        &profile,
+        &BACK,
+        &nothing,
+    );
 }

@@ -6,10 +6,10 @@ use Rattle.worked_example.proofs.show_paths.Statement.{statement}
 use Rattle.worked_example.proofs.show_paths.Tie as tie
 
 abbrev Inv-loop : tie.InvT-loop
-Inv-loop include exclude path₀ more₀ turns₀ path more turns = Unit {0}
+Inv-loop profile include exclude path₀ more₀ turns₀ path more turns = Unit {0}
 
 abbrev μ-loop : tie.MeasureT-loop
-μ-loop include exclude path₀ more₀ turns₀ path more turns = turns
+μ-loop profile include exclude path₀ more₀ turns₀ path more turns = turns
 
 show-first-requires : tie.Need-show-first-requires Inv-loop μ-loop
 show-first-requires c κs = tt
