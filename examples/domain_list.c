@@ -3,11 +3,11 @@
  * the same sequence as a written list, and that list read. */
 #include <stdio.h>
 
-#include "yachayniq.h"
+#include "yq_profile.h"
 
 /* version 1, class 0, 3 domains, no hop: AS 64500 with OSPF area 0, AS 64501
  * with OSPF areas 0 and 4 */
-static const uint8_t profile[12 + 3 * 20] = {
+static const uint8_t bytes[12 + 3 * 20] = {
     'D', 'S', 'P', 0, 1, 0, 0, 3,
     [12] = 0, 0, 0xFB, 0xF4, 1, 4, 0, 0, 0, 0,
     [32] = 0, 0, 0xFB, 0xF5, 1, 4, 0, 0, 0, 0,
@@ -22,49 +22,38 @@ static const uint8_t list[] = {
 };
 
 /* Reads a list that starts in domain 0. */
-static void read_list(const uint8_t *include, size_t count)
+static yq_sequence read_list(const yq_profile *profile, const uint8_t *at,
+                             size_t count)
 {
-    uint16_t domains[16];
-    uint8_t pinned[16];
-    uint32_t pins[16], numbers[2];
-    uint32_t number = yq_read_include(profile, sizeof profile, 0,
-                                      include, count, domains, 16,
-                                      pinned, 16, pins, 16, numbers);
-    if (number != 0) {
-        printf("number %u, place %u\n", (unsigned)number, (unsigned)numbers[0]);
-        return;
-    }
-    printf("number 0, %u domains\n", (unsigned)numbers[1]);
-    for (uint32_t i = 0; i < numbers[1]; i++) {
-        unsigned node = (unsigned)pins[i];
-        printf("domain %u", (unsigned)domains[i]);
-        if (pinned[i])
+    yq_bytes include = {at, count};
+    yq_sequence sequence = {.count = 0};
+    yq_answer answer = yq_profile_read_include(profile, 0, include, &sequence);
+    if (answer.number != 0)
+        printf("number %u, place %u\n", answer.number, answer.place);
+    else
+        printf("number 0, %zu domains\n", sequence.count);
+    for (size_t i = 0; i < sequence.count; i++) {
+        uint32_t node = sequence.stops[i].pin;
+        printf("domain %u", sequence.stops[i].domain);
+        if (sequence.stops[i].pinned)
             printf(", entered through %u.%u.%u.%u", node >> 24,
                    node >> 16 & 255, node >> 8 & 255, node & 255);
         printf("\n");
     }
-}
-
-/* Writes domains 0, 1 and 2, the last entered through 192.0.2.22. */
-static size_t write_list(uint8_t *out, size_t capacity)
-{
-    static const uint16_t domains[] = {0, 1, 2};
-    static const uint8_t pinned[] = {0, 0, 1};
-    static const uint32_t pins[] = {0, 0, 0xC0000216};
-    uint32_t numbers[2];
-    uint32_t number = yq_write_list(profile, sizeof profile, domains, 3,
-                                    pinned, 3, pins, 3, out, capacity, numbers);
-    printf("number %u, %u bytes\n", (unsigned)number, (unsigned)numbers[1]);
-    for (uint32_t i = 0; i < numbers[1]; i++)
-        printf("%02X%s", out[i], i % 8 == 7 ? "\n" : " ");
-    return numbers[1];
+    return sequence;
 }
 
 int main(void)
 {
-    uint8_t written[576];
-    read_list(list, sizeof list);
-    read_list(list, 8); /* AS 64501 alone, which has two domains */
-    read_list(written, write_list(written, sizeof written));
+    yq_profile profile;
+    yq_profile_open(&profile, bytes, sizeof bytes);
+    yq_sequence sequence = read_list(&profile, list, sizeof list);
+    read_list(&profile, list, 8); /* AS 64501 alone, which has two domains */
+    yq_list written;
+    yq_answer answer = yq_profile_write_list(&profile, &sequence, &written);
+    printf("number %u, %zu bytes\n", answer.number, written.count);
+    for (size_t i = 0; i < written.count; i++)
+        printf("%02X%s", written.bytes[i], i % 8 == 7 ? "\n" : " ");
+    read_list(&profile, written.bytes, written.count);
     return 0;
 }

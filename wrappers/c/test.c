@@ -1,0 +1,223 @@
+/* The wrapper on document 01's worked examples, each call and each kind of
+ * answer. The first argument is the file of profile W. */
+#include <math.h>
+#include <stdio.h>
+#include <stdlib.h>
+
+#include "yq_profile.h"
+
+#define EXPECT(fact) \
+    ((fact) ? (void)0 : (printf("%s:%d: %s\n", __FILE__, __LINE__, #fact), exit(1)))
+
+#define NODE(last) (0xC0000200u + (last))
+
+enum { S = 1, P = 11, Q = 12, T = 21, U = 22, Z = 99 };
+
+static const uint8_t onward[] = {32, 4, 0xFB, 0xF1, 32, 4, 0xFB, 0xF2};
+static const uint8_t through_u[] = {32, 4, 0xFB, 0xF1, 1, 8, 192, 0, 2, U,
+                                    32, 0, 32, 4, 0xFB, 0xF2};
+static const uint8_t back[] = {5, 8, 0, 0, 0, 0, 0xFB, 0xF1,
+                               5, 8, 0, 0, 0, 0, 0xFB, 0xF0};
+static const uint8_t without_q[] = {1, 8, 192, 0, 2, Q, 32, 1};
+static const uint8_t too_long[1025] = {0};
+
+static uint8_t w_bytes[232];
+static yq_profile w;
+
+static bool is(yq_answer answer, uint32_t number, uint32_t place)
+{
+    return answer.number == number && answer.place == place;
+}
+
+static yq_request request(void)
+{
+    yq_request asked = {.source = NODE(S), .destination = NODE(Z),
+                        .include = {onward, sizeof onward}, .bandwidth = 100};
+    return asked;
+}
+
+/* The shortest paths of a request, each of total 14, in the last bytes of their
+ * inner nodes. */
+static void listed(yq_request asked, size_t count, const uint8_t inner[][2])
+{
+    yq_paths paths = yq_profile_paths(&w, &asked);
+    for (size_t i = 0; i < count; i++) {
+        EXPECT(yq_paths_next(&paths));
+        EXPECT(paths.path.count == 4);
+        EXPECT(paths.path.addresses[0] == NODE(S));
+        EXPECT(paths.path.addresses[1] == NODE(inner[i][0]));
+        EXPECT(paths.path.addresses[2] == NODE(inner[i][1]));
+        EXPECT(paths.path.addresses[3] == NODE(Z));
+        EXPECT(paths.path.total == 14 && paths.path.total_float == 14);
+    }
+    EXPECT(!yq_paths_next(&paths));
+    EXPECT(is(paths.answer, count == 0 ? 1 : 2, 0));
+    EXPECT(!yq_paths_next(&paths));
+}
+
+static void tree(void)
+{
+    static const uint32_t expected[][3] = {
+        {0, S, 14}, {1, P, 4}, {1, Q, 11}, {2, T, 2}, {2, U, 3}};
+    yq_entries tree;
+    yq_request asked = request();
+    EXPECT(is(yq_profile_tree(&w, &asked, &tree), 0, 0));
+    EXPECT(tree.count == 5 && tree.tally == 8);
+    for (size_t i = 0; i < 5; i++) {
+        EXPECT(tree.entries[i].level == expected[i][0]);
+        EXPECT(tree.entries[i].address == NODE(expected[i][1]));
+        EXPECT(tree.entries[i].reachable);
+        EXPECT(tree.entries[i].cost == expected[i][2]);
+    }
+    asked.include.at = NULL;
+    asked.include.count = 0;
+    EXPECT(is(yq_profile_tree(&w, &asked, &tree), 0, 0));
+    EXPECT(tree.count == 1 && tree.tally == 0);
+    EXPECT(!tree.entries[0].reachable && tree.entries[0].cost == 0);
+    listed(asked, 0, NULL);
+}
+
+static void paths(void)
+{
+    static const uint8_t every[][2] = {{P, U}, {Q, T}, {Q, U}};
+    static const uint8_t by_u[][2] = {{P, U}, {Q, U}};
+    yq_request asked = request();
+    listed(asked, 3, every);
+    asked.bounded = true;
+    asked.bound = 14;
+    listed(asked, 3, every);
+    asked.bound = 13;
+    listed(asked, 0, NULL);
+    asked = request();
+    asked.bandwidth = nextafterf(100, 101);
+    listed(asked, 2, every);
+    asked = request();
+    asked.exclude.at = without_q;
+    asked.exclude.count = sizeof without_q;
+    listed(asked, 1, every);
+    asked = request();
+    asked.include.at = through_u;
+    asked.include.count = sizeof through_u;
+    listed(asked, 2, by_u);
+}
+
+static void next(void)
+{
+    yq_request asked = request();
+    yq_path given = {.count = 4, .addresses = {NODE(S), NODE(P), NODE(T), NODE(Z)}};
+    yq_path path;
+    EXPECT(is(yq_profile_next(&w, &asked, &given, &path), 0, 0));
+    EXPECT(path.count == 4 && path.addresses[2] == NODE(U));
+    EXPECT(given.addresses[2] == NODE(T));
+    given.count = 3;
+    EXPECT(is(yq_profile_next(&w, &asked, &given, &path), 33, 0));
+    given.count = 1000;
+    EXPECT(is(yq_profile_next(&w, &asked, &given, &path), 33, 0));
+    EXPECT(path.count == 4 && path.addresses[2] == NODE(U));
+}
+
+static void refused(yq_request asked, uint32_t number, uint32_t place)
+{
+    yq_entries tree;
+    yq_path path;
+    yq_paths paths = yq_profile_paths(&w, &asked);
+    EXPECT(is(yq_profile_tree(&w, &asked, &tree), number, place));
+    EXPECT(is(yq_profile_first(&w, &asked, &path), number, place));
+    EXPECT(!yq_paths_next(&paths) && is(paths.answer, number, place));
+    EXPECT(!yq_paths_next(&paths) && is(paths.answer, number, place));
+}
+
+static void refusals(void)
+{
+    const float wrong[] = {-1.0f, -0.0f, INFINITY, NAN};
+    yq_request asked = request();
+    asked.include.at = back;
+    asked.include.count = sizeof back;
+    refused(asked, 30, 8);
+    asked = request();
+    asked.ingress = 3;
+    refused(asked, 20, 0);
+    for (size_t i = 0; i < 4; i++) {
+        asked = request();
+        asked.bound = wrong[i];
+        asked.bounded = true;
+        refused(asked, 21, 1);
+        asked.bandwidth = wrong[i];
+        refused(asked, 21, 0);
+    }
+    asked = request();
+    asked.exclude.at = too_long;
+    asked.exclude.count = sizeof too_long;
+    refused(asked, 22, 1);
+    asked.include = asked.exclude;
+    refused(asked, 22, 0);
+}
+
+static void profiles(void)
+{
+    yq_profile profile;
+    uint8_t wrong[sizeof w_bytes];
+    EXPECT(is(yq_profile_open(&profile, NULL, 0), 10, 0));
+    memcpy(wrong, w_bytes, sizeof wrong);
+    wrong[78] = 3; /* record 3 is now from 192.0.3.1 */
+    EXPECT(is(yq_profile_open(&profile, wrong, sizeof wrong), 16, 3));
+}
+
+static void lists(void)
+{
+    /* 64500 with OSPF area 0, 64501 with the areas 0 and 4 */
+    static const uint8_t bytes[12 + 3 * 20] = {
+        'D', 'S', 'P', 0, 1, 0, 0, 3,
+        [12] = 0, 0, 0xFB, 0xF4, 1, 4, 0, 0, 0, 0,
+        [32] = 0, 0, 0xFB, 0xF5, 1, 4, 0, 0, 0, 0,
+        [52] = 0, 0, 0xFB, 0xF5, 1, 4, 0, 0, 0, 4,
+    };
+    static const uint8_t written[] = {
+        5, 8, 0, 0, 0, 0, 0xFB, 0xF4, 6, 8, 0, 0, 0, 0, 0, 0,
+        5, 8, 0, 0, 0, 0, 0xFB, 0xF5, 6, 8, 0, 0, 0, 0, 0, 0,
+        6, 8, 0, 0, 0, 0, 0, 4};
+    yq_profile areas;
+    yq_sequence sequence;
+    yq_list list;
+    yq_bytes given = {written, sizeof written};
+    EXPECT(is(yq_profile_open(&areas, bytes, sizeof bytes), 0, 0));
+    EXPECT(is(yq_profile_read_include(&areas, 0, given, &sequence), 0, 0));
+    EXPECT(sequence.count == 3);
+    for (uint16_t i = 0; i < 3; i++)
+        EXPECT(sequence.stops[i].domain == i && !sequence.stops[i].pinned);
+    EXPECT(is(yq_profile_write_list(&areas, &sequence, &list), 0, 0));
+    EXPECT(list.count == sizeof written);
+    EXPECT(memcmp(list.bytes, written, sizeof written) == 0);
+    sequence.stops[2].pinned = true;
+    sequence.stops[2].pin = NODE(U);
+    EXPECT(is(yq_profile_write_list(&areas, &sequence, &list), 0, 0));
+    given.at = list.bytes;
+    given.count = list.count;
+    sequence.count = 0;
+    EXPECT(is(yq_profile_read_include(&areas, 0, given, &sequence), 0, 0));
+    EXPECT(sequence.count == 3 && sequence.stops[2].pinned);
+    EXPECT(sequence.stops[2].pin == NODE(U) && !sequence.stops[1].pinned);
+    given.at = written + 16;
+    given.count = 8;
+    EXPECT(is(yq_profile_read_include(&areas, 0, given, &sequence), 29, 0));
+    sequence.count = 1000;
+    EXPECT(is(yq_profile_write_list(&areas, &sequence, &list), 35, 0));
+    sequence.count = 2;
+    sequence.stops[1].domain = 0;
+    EXPECT(is(yq_profile_write_list(&areas, &sequence, &list), 35, 0));
+}
+
+int main(int count, char **arguments)
+{
+    FILE *file = fopen(count == 2 ? arguments[1] : "examples/w.dsp", "rb");
+    EXPECT(file != NULL);
+    EXPECT(fread(w_bytes, 1, sizeof w_bytes, file) == sizeof w_bytes);
+    EXPECT(is(yq_profile_open(&w, w_bytes, sizeof w_bytes), 0, 0));
+    tree();
+    paths();
+    next();
+    refusals();
+    profiles();
+    lists();
+    return 0;
+}

@@ -1,0 +1,273 @@
+/*
+ * Yachayniq for C: a profile, a request, and the six calls on them, with every
+ * buffer as large as it can need to be.
+ *
+ *     yq_profile profile;
+ *     yq_answer answer = yq_profile_open(&profile, bytes, count);
+ *     yq_request request = {.source = 0xC0000201, .destination = 0xC0000263,
+ *                           .include = {list, sizeof list}, .bandwidth = 100};
+ *     yq_paths paths = yq_profile_paths(&profile, &request);
+ *     while (yq_paths_next(&paths))
+ *         ... paths.path ...
+ *
+ * A call answers with document 01's number, 0 when done, and the place of a
+ * refusal (yachayniq.h lists them). What it is to fill is filled on 0 alone.
+ * An address is a number: 192.0.2.1 is 0xC0000201.
+ */
+#ifndef YQ_PROFILE_H
+#define YQ_PROFILE_H
+
+#include <string.h>
+
+#include "yachayniq.h"
+
+enum { YQ_DOMAINS = 16, YQ_ADDRESSES = 17, YQ_ENTRIES = 241, YQ_LIST = 1024 };
+
+typedef struct {
+    uint32_t number, place;
+} yq_answer;
+
+typedef struct {
+    const uint8_t *at; /* may be NULL where count is 0 */
+    size_t count;
+} yq_bytes;
+
+/* A profile that was accepted. The bytes stay the caller's. */
+typedef struct {
+    yq_bytes bytes;
+} yq_profile;
+
+/* What is asked of a profile. What is left out is 0: ingress 0, empty lists,
+ * any bandwidth, no bound. */
+typedef struct {
+    uint16_t ingress; /* the index of the domain that the source is in */
+    uint32_t source, destination;
+    yq_bytes include; /* the domains to cross after it: the body of an IRO */
+    yq_bytes exclude; /* what to leave out: the subobjects of an XRO */
+    float bandwidth;  /* the least that a hop must have */
+    bool bounded;     /* whether the bound counts */
+    float bound;      /* the most that a path may cost */
+} yq_request;
+
+/* A sequence of domains, each with the node to enter it through if one is set. */
+typedef struct {
+    size_t count;
+    struct {
+        uint16_t domain;
+        bool pinned;
+        uint32_t pin;
+    } stops[YQ_DOMAINS];
+} yq_sequence;
+
+typedef struct {
+    size_t count;
+    uint8_t bytes[YQ_LIST];
+} yq_list;
+
+/* A tree, and how many hop records were examined for it. The cost is 0 where
+ * the destination can't be reached. */
+typedef struct {
+    size_t count;
+    uint32_t tally;
+    struct {
+        uint32_t level, address;
+        bool reachable;
+        uint32_t cost;
+    } entries[YQ_ENTRIES];
+} yq_entries;
+
+/* A path, and its total as a whole number and as a float. */
+typedef struct {
+    size_t count;
+    uint32_t addresses[YQ_ADDRESSES];
+    uint32_t total;
+    float total_float;
+} yq_path;
+
+/* The shortest paths of a request: where yq_paths_next stands. */
+typedef struct {
+    const yq_profile *profile;
+    const yq_request *request;
+    bool begun;
+    yq_answer answer; /* of the last call: 0, 1 or 2, or why it was refused */
+    yq_path path;
+} yq_paths;
+
+static inline yq_answer yq_answered(uint32_t number, const uint32_t *numbers)
+{
+    yq_answer answer = {number, numbers[0]};
+    return answer;
+}
+
+/* The library takes no NULL. */
+static inline const uint8_t *yq_start(yq_bytes bytes)
+{
+    static const uint8_t none[1] = {0};
+    return bytes.count == 0 ? none : bytes.at;
+}
+
+static inline uint32_t yq_float_bits(float value)
+{
+    uint32_t bits;
+    memcpy(&bits, &value, sizeof bits);
+    return bits;
+}
+
+/* The arguments that each call with a request begins with. */
+#define YQ_ASKED(profile, request) \
+    yq_start((profile)->bytes), (profile)->bytes.count, \
+    (request)->ingress, (request)->source, (request)->destination, \
+    yq_start((request)->include), (request)->include.count, \
+    yq_start((request)->exclude), (request)->exclude.count, \
+    yq_float_bits((request)->bandwidth), (request)->bounded, \
+    yq_float_bits((request)->bound)
+
+/* Takes a profile's bytes, which must stay as they are while it is used. */
+static inline yq_answer yq_profile_open(yq_profile *profile,
+                                        const uint8_t *bytes, size_t count)
+{
+    yq_bytes taken = {bytes, count};
+    uint32_t numbers[1];
+    uint32_t number = yq_check_profile(yq_start(taken), count, numbers);
+    if (number == 0)
+        profile->bytes = taken;
+    return yq_answered(number, numbers);
+}
+
+/* The sequence of domains that an include list means. */
+static inline yq_answer yq_profile_read_include(const yq_profile *profile,
+                                                uint16_t ingress,
+                                                yq_bytes include,
+                                                yq_sequence *sequence)
+{
+    uint16_t domains[YQ_DOMAINS];
+    uint8_t pinned[YQ_DOMAINS];
+    uint32_t pins[YQ_DOMAINS], numbers[2];
+    uint32_t number = yq_read_include(
+        yq_start(profile->bytes), profile->bytes.count, ingress,
+        yq_start(include), include.count, domains, YQ_DOMAINS,
+        pinned, YQ_DOMAINS, pins, YQ_DOMAINS, numbers);
+    if (number == 0) {
+        sequence->count = numbers[1];
+        for (size_t i = 0; i < numbers[1]; i++) {
+            sequence->stops[i].domain = domains[i];
+            sequence->stops[i].pinned = pinned[i] == 1;
+            sequence->stops[i].pin = pins[i];
+        }
+    }
+    return yq_answered(number, numbers);
+}
+
+/* The list that means this sequence, read with its first domain as ingress. */
+static inline yq_answer yq_profile_write_list(const yq_profile *profile,
+                                              const yq_sequence *sequence,
+                                              yq_list *list)
+{
+    uint16_t domains[YQ_DOMAINS];
+    uint8_t pinned[YQ_DOMAINS];
+    uint32_t pins[YQ_DOMAINS], numbers[2];
+    /* None can't be written either: 35, like more than there is room for. */
+    size_t count = sequence->count <= YQ_DOMAINS ? sequence->count : 0;
+    for (size_t i = 0; i < count; i++) {
+        domains[i] = sequence->stops[i].domain;
+        pinned[i] = sequence->stops[i].pinned;
+        pins[i] = sequence->stops[i].pin;
+    }
+    uint32_t number = yq_write_list(
+        yq_start(profile->bytes), profile->bytes.count, domains, count,
+        pinned, count, pins, count, list->bytes, YQ_LIST, numbers);
+    if (number == 0)
+        list->count = numbers[1];
+    return yq_answered(number, numbers);
+}
+
+/* The least cost from each entry node to the destination. */
+static inline yq_answer yq_profile_tree(const yq_profile *profile,
+                                        const yq_request *request,
+                                        yq_entries *tree)
+{
+    uint32_t level[YQ_ENTRIES], address[YQ_ENTRIES], cost[YQ_ENTRIES];
+    uint8_t reachable[YQ_ENTRIES];
+    uint32_t numbers[3];
+    uint32_t number = yq_tree(YQ_ASKED(profile, request),
+                              level, YQ_ENTRIES, address, YQ_ENTRIES,
+                              reachable, YQ_ENTRIES, cost, YQ_ENTRIES, numbers);
+    if (number == 0) {
+        tree->count = numbers[1];
+        tree->tally = numbers[2];
+        for (size_t i = 0; i < numbers[1]; i++) {
+            tree->entries[i].level = level[i];
+            tree->entries[i].address = address[i];
+            tree->entries[i].reachable = reachable[i] == 1;
+            tree->entries[i].cost = cost[i];
+        }
+    }
+    return yq_answered(number, numbers);
+}
+
+static inline void yq_found(yq_path *path, size_t count, const uint32_t *numbers)
+{
+    path->count = count;
+    path->total = numbers[1];
+    memcpy(&path->total_float, &numbers[2], sizeof path->total_float);
+}
+
+/* The first of the shortest paths; 1 where there is none. */
+static inline yq_answer yq_profile_first(const yq_profile *profile,
+                                         const yq_request *request,
+                                         yq_path *path)
+{
+    uint32_t numbers[3];
+    uint32_t number = yq_first(YQ_ASKED(profile, request),
+                               path->addresses, YQ_ADDRESSES, numbers);
+    if (number == 0) {
+        /* The source, an entry node for each domain but the first, the
+         * destination. */
+        yq_sequence sequence;
+        sequence.count = 0;
+        yq_profile_read_include(profile, request->ingress, request->include,
+                                &sequence);
+        yq_found(path, sequence.count + 1, numbers);
+    }
+    return yq_answered(number, numbers);
+}
+
+/* The next shortest path after a path, or after any list of addresses of a
+ * path's length; 2 where no other is greater. `path` may be `after`. */
+static inline yq_answer yq_profile_next(const yq_profile *profile,
+                                        const yq_request *request,
+                                        const yq_path *after, yq_path *path)
+{
+    uint32_t given[YQ_ADDRESSES], numbers[3];
+    /* No path has no address: 33, like more than there is room for. */
+    size_t count = after->count <= YQ_ADDRESSES ? after->count : 0;
+    memcpy(given, after->addresses, count * sizeof *given);
+    uint32_t number = yq_next(YQ_ASKED(profile, request), given, count,
+                              path->addresses, YQ_ADDRESSES, numbers);
+    if (number == 0)
+        yq_found(path, count, numbers);
+    return yq_answered(number, numbers);
+}
+
+/* Every shortest path of a request, from the first on. */
+static inline yq_paths yq_profile_paths(const yq_profile *profile,
+                                        const yq_request *request)
+{
+    yq_paths paths = {profile, request, false, {0, 0}, {0, {0}, 0, 0}};
+    return paths;
+}
+
+/* Goes to the next path; false where there is none or the request is refused. */
+static inline bool yq_paths_next(yq_paths *paths)
+{
+    if (!paths->begun)
+        paths->answer = yq_profile_first(paths->profile, paths->request,
+                                         &paths->path);
+    else if (paths->answer.number == 0)
+        paths->answer = yq_profile_next(paths->profile, paths->request,
+                                        &paths->path, &paths->path);
+    paths->begun = true;
+    return paths->answer.number == 0;
+}
+
+#endif

@@ -1,0 +1,218 @@
+//! The wrapper on document 01's worked examples, each call and each kind of
+//! answer.
+
+use std::net::Ipv4Addr;
+use yachayniq::{check_profile, Entry, Profile, Refusal, Request, Stop};
+
+const W: &[u8] = include_bytes!("../../../examples/w.dsp");
+const ONWARD: &[u8] = &[32, 4, 0xFB, 0xF1, 32, 4, 0xFB, 0xF2];
+const THROUGH_U: &[u8] = &[
+    32, 4, 0xFB, 0xF1, 1, 8, 192, 0, 2, 22, 32, 0, 32, 4, 0xFB, 0xF2,
+];
+const BACK: &[u8] = &[5, 8, 0, 0, 0, 0, 0xFB, 0xF1, 5, 8, 0, 0, 0, 0, 0xFB, 0xF0];
+const WITHOUT_Q: &[u8] = &[1, 8, 192, 0, 2, 12, 32, 1];
+const S: Ipv4Addr = Ipv4Addr::new(192, 0, 2, 1);
+const P: Ipv4Addr = Ipv4Addr::new(192, 0, 2, 11);
+const Q: Ipv4Addr = Ipv4Addr::new(192, 0, 2, 12);
+const T: Ipv4Addr = Ipv4Addr::new(192, 0, 2, 21);
+const U: Ipv4Addr = Ipv4Addr::new(192, 0, 2, 22);
+const Z: Ipv4Addr = Ipv4Addr::new(192, 0, 2, 99);
+
+/// Document 01's request: S to Z by both other domains, bandwidth 100, no bound.
+fn request() -> Request<'static> {
+    Request {
+        include: ONWARD,
+        bandwidth: 100.0,
+        ..Request::new(S, Z)
+    }
+}
+
+fn w() -> Profile {
+    Profile::new(W).expect("document 01's profile")
+}
+
+fn refusal<T>(number: u32, place: u32) -> Result<T, Refusal> {
+    Err(Refusal { number, place })
+}
+
+#[test]
+fn tree() {
+    let tree = w().tree(&request()).unwrap();
+    let entry = |level, address, cost| Entry {
+        level,
+        address,
+        reachable: true,
+        cost,
+    };
+    let expected = [
+        entry(0, S, 14),
+        entry(1, P, 4),
+        entry(1, Q, 11),
+        entry(2, T, 2),
+        entry(2, U, 3),
+    ];
+    assert_eq!(tree.entries, expected);
+    assert_eq!(tree.tally, 8);
+
+    let alone = Request {
+        include: &[],
+        ..request()
+    };
+    let tree = w().tree(&alone).unwrap();
+    let source = Entry {
+        level: 0,
+        address: S,
+        reachable: false,
+        cost: 0,
+    };
+    assert_eq!((tree.entries, tree.tally), (vec![source], 0));
+    assert_eq!(w().first(&alone), Ok(None));
+}
+
+/// The shortest paths of a request, each of total 14.
+#[track_caller]
+fn listed(request: Request, expected: &[[Ipv4Addr; 4]]) {
+    let w = w();
+    let paths: Vec<_> = w.paths(&request).unwrap().collect();
+    assert!(paths
+        .iter()
+        .all(|path| path.total == 14 && path.total_float == 14.0));
+    let paths: Vec<_> = paths.into_iter().map(|path| path.addresses).collect();
+    assert_eq!(paths, expected);
+}
+
+#[test]
+fn paths() {
+    let every = [[S, P, U, Z], [S, Q, T, Z], [S, Q, U, Z]];
+    let request = request();
+    let bounded = |bound| Request {
+        bound: Some(bound),
+        ..request
+    };
+    listed(request, &every);
+    listed(bounded(14.0), &every);
+    listed(bounded(13.0), &[]);
+    let bandwidth = f32::from_bits(0x42C80001);
+    listed(
+        Request {
+            bandwidth,
+            ..request
+        },
+        &every[..2],
+    );
+    let exclude = WITHOUT_Q;
+    listed(Request { exclude, ..request }, &every[..1]);
+    let include = THROUGH_U;
+    listed(Request { include, ..request }, &[every[0], every[2]]);
+}
+
+#[test]
+fn next() {
+    let after = |given: &[Ipv4Addr]| {
+        let path = w().next(&request(), given);
+        path.map(|path| path.map(|path| path.addresses))
+    };
+    assert_eq!(after(&[S, P, T, Z]), Ok(Some(vec![S, P, U, Z])));
+    assert_eq!(after(&[S, P, U, Z]), Ok(Some(vec![S, Q, T, Z])));
+    assert_eq!(after(&[S, Q, U, Z]), Ok(None));
+    assert_eq!(after(&[S, P, Z]), refusal(33, 0));
+}
+
+#[test]
+fn refusals() {
+    let request = request();
+    let long: &[u8] = &[0; 1025];
+    let refused = |request: Request, number, place| {
+        assert_eq!(w().tree(&request), refusal(number, place));
+        assert_eq!(w().first(&request), refusal(number, place));
+        assert_eq!(w().paths(&request).map(|_| ()), refusal(number, place));
+    };
+    let include = BACK;
+    refused(Request { include, ..request }, 30, 8);
+    refused(
+        Request {
+            ingress: 3,
+            ..request
+        },
+        20,
+        0,
+    );
+    for wrong in [-1.0, -0.0, f32::INFINITY, f32::NAN] {
+        let bandwidth = wrong;
+        refused(
+            Request {
+                bandwidth,
+                ..request
+            },
+            21,
+            0,
+        );
+        let bound = Some(wrong);
+        refused(Request { bound, ..request }, 21, 1);
+    }
+    refused(
+        Request {
+            include: long,
+            ..request
+        },
+        22,
+        0,
+    );
+    refused(
+        Request {
+            exclude: long,
+            ..request
+        },
+        22,
+        1,
+    );
+}
+
+#[test]
+fn profiles() {
+    assert_eq!(check_profile(W), Ok(()));
+    assert_eq!(check_profile(&[]), refusal(10, 0));
+    let mut wrong = W.to_vec();
+    wrong[78] = 3; // record 3 is now from 192.0.3.1
+    let refused = Profile::new(wrong).unwrap_err();
+    assert_eq!(refused.to_string(), "refused: number 16, place 3");
+}
+
+#[test]
+fn lists() {
+    // 64500 with OSPF area 0, 64501 with the areas 0 and 4
+    let mut areas = b"DSP\x00\x01\x00\x00\x03\x00\x00\x00\x00".to_vec();
+    for record in [[0xF4, 1, 4, 0], [0xF5, 1, 4, 0], [0xF5, 1, 4, 4]] {
+        areas.extend([0, 0, 0xFB, record[0], record[1], record[2]]);
+        areas.extend([0, 0, 0, record[3], 0, 0, 0, 0, 0, 0, 0, 0, 0, 0]);
+    }
+    let areas = Profile::new(areas).unwrap();
+    let stop = |domain| Stop { domain, pin: None };
+    let written = [
+        [5, 8, 0, 0, 0, 0, 0xFB, 0xF4],
+        [6, 8, 0, 0, 0, 0, 0, 0],
+        [5, 8, 0, 0, 0, 0, 0xFB, 0xF5],
+        [6, 8, 0, 0, 0, 0, 0, 0],
+        [6, 8, 0, 0, 0, 0, 0, 4],
+    ]
+    .concat();
+    let sequence = vec![stop(0), stop(1), stop(2)];
+    assert_eq!(areas.read_include(0, &written), Ok(sequence.clone()));
+    assert_eq!(areas.read_include(0, &written[16..]), Ok(sequence.clone()));
+    assert_eq!(areas.write_list(&sequence), Ok(written.clone()));
+
+    let pin = Some(U);
+    let pinned = vec![stop(0), Stop { domain: 2, pin }, stop(1)];
+    let list = areas.write_list(&pinned).unwrap();
+    assert_eq!(areas.read_include(0, &list), Ok(pinned));
+    assert_eq!(areas.read_include(0, &written[16..24]), refusal(29, 0));
+    assert_eq!(areas.read_include(3, &[]), refusal(20, 0));
+    for wrong in [
+        &[][..],
+        &[stop(0), stop(0)],
+        &[stop(3)],
+        &[Stop { domain: 0, pin }],
+    ] {
+        assert_eq!(areas.write_list(wrong), refusal(35, 0));
+    }
+}
