@@ -5,12 +5,12 @@
 //! # fn main() -> Result<(), Box<dyn std::error::Error>> {
 //! let profile = Profile::new(std::fs::read("examples/w.dsp")?)?;
 //! let request = Request {
-//!     include: &[32, 4, 0xFB, 0xF1, 32, 4, 0xFB, 0xF2],
+//!     include: &[32, 4, 0xFB, 0xF1, 32, 4, 0xFB, 0xF2], // AS 64497, AS 64498
 //!     bandwidth: 100.0,
 //!     ..Request::new("192.0.2.1".parse()?, "192.0.2.99".parse()?)
 //! };
 //! for path in profile.paths(&request)? {
-//!     println!("{:?} {}", path.addresses, path.total);
+//!     println!("{:?} total {}", path.addresses, path.total);
 //! }
 //! # Ok(())
 //! # }
