@@ -10,7 +10,7 @@ use Rattle.model.specs.Lists.{over}
 use Rattle.model.specs.Request.{Request}
 use Rattle.model.specs.Answers.{Numbers, numbersOfPath}
 use Rattle.model.specs.Calls.{Outcome}
-use Rattle.paths.specs.Numbers.{fourOf}
+use Rattle.path_answers.specs.Numbers.{fourOf}
 use Rattle.series.specs.declared.SeriesAnswer.{SeriesAnswer}
 use Rattle.series.specs.Runs.{numberOfSeries, RunIs}
 use Rattle.calculator.specs.Exports.{PathExport, SeriesExport}

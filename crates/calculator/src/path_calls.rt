@@ -2,9 +2,9 @@
 use crate::limits::limits_of;
 use model::DomainIndex;
 use model::NodeAddress;
+use path_answers::numbers::four_of;
 use paths::first;
 use paths::next;
-use paths::numbers::four_of;
 use series::SeriesAnswer;
 use series::run;
 ghost use lib.ListN.{length};

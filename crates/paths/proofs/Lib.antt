@@ -1,3 +1,2 @@
--- What the proofs of several functions share, a module to a subject.
-mod Answers
+-- What the proofs of several functions share.
 mod Outcomes

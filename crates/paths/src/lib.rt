@@ -12,9 +12,8 @@ ghost use Rattle.model.specs.Lists.{over};
 ghost use Rattle.model.specs.Answers.{numbersOfPath};
 ghost use Rattle.model.specs.Calls as Calls;
 ghost use Rattle.request.specs.Checked.{requestOf};
-ghost use Rattle.paths.specs.Numbers.{Real};
+ghost use Rattle.path_answers.specs.Numbers.{Real};
 
-pub mod numbers;
 pub mod route;
 
 // The first `n` of some addresses over the start of a lent list.

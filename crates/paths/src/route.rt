@@ -2,85 +2,24 @@
 use model::DomainIndex;
 use model::Limits;
 use model::NodeAddress;
-use model::PathAnswer;
-use model::Refusal;
 use model::Verdict;
-use path_search::Sought;
-use path_search::bound::total_float;
+use path_answers::Routed;
+use path_answers::answered;
+use path_answers::refused;
+use path_answers::refused_by;
 use path_search::search;
 use records::layout::first_version;
 use request::Query;
 use request::check_request;
 ghost use mathlib.Core.Path.{_≡_};
-ghost use mathlib.Core.Bool.{true};
-ghost use mathlib.Core.List.{List};
-ghost use Prim.Native.Nat.{ℕ, suc, _≤_, _<_};
+ghost use Prim.Native.Nat.{ℕ, suc, _≤_};
 ghost use lib.ListN.{length};
-ghost use Rattle.model.specs.Request.{Search};
 ghost use Rattle.model.specs.Path.{shortestPaths};
-ghost use Rattle.model.specs.Answers.{refused3};
 ghost use Rattle.model.specs.Profile.{version1};
-ghost use Rattle.model.specs.Calls.{nothing, firstOf, greaterThan, first, next};
+ghost use Rattle.model.specs.Calls.{firstOf, greaterThan, first, next};
 ghost use Rattle.request.specs.Checked.{requestOf};
 ghost use Rattle.request.specs.Query.{searchFor, Ready};
-ghost use Rattle.path_search.specs.Sought.{SoughtIs};
-ghost use Rattle.paths.specs.Routed.{noneAnswer, noneNumber, RoutedBy};
-
-// What a call for a path answers, and the path: the first `count` addresses of `path`.
-pub struct Routed {
-    pub answer: PathAnswer,
-    pub count: usize,
-    pub path: [u32; 17],
-}
-
-// No path, and why.
-fn refused(r: Refusal) -> Routed
-    ensures { λ x. ⌜ ((room : ℕ) → RoutedBy (nothing (refused3 r)) room x) ⌝ }
-{
-    Routed {
-        answer: PathAnswer::Refused(r),
-        count: 0,
-        path: [0u32; 17],
-    }
-}
-
-fn refused_by(number: u32) -> Routed
-    ensures { λ x. ⌜ ((room : ℕ) → RoutedBy (nothing (refused3 (record { number = number; place = 0 }))) room x) ⌝ }
-{
-    refused(Refusal { number, place: 0 })
-}
-
-// There is no path: for first none at all, for next none that is greater.
-fn none_answer(again: bool) -> PathAnswer
-    ensures { λ r. ⌜ r ≡ noneAnswer again ⌝ }
-{
-    if again {
-        return PathAnswer::End;
-    }
-    PathAnswer::NoPath
-}
-
-// The path found, or the answer that there is none.
-fn answered(sought: Sought, count: usize, again: bool) -> Routed
-    requires { ⌜ (count < 17) × (sought .found ≡ true → sought .total ≤ 1048560) ⌝ }
-    ensures { λ x. ⌜ ((S : Search) (given : List ℕ) (room : ℕ) → SoughtIs S given (suc count) sought → suc count ≤ room → RoutedBy (firstOf (noneNumber again) (greaterThan given (shortestPaths S))) room x) ⌝ }
-{
-    let path = sought.path;
-    if !sought.found {
-        return Routed {
-            answer: none_answer(again),
-            count: 0,
-            path,
-        };
-    }
-    let total = sought.total;
-    let float = total_float(total);
-    Routed {
-        answer: PathAnswer::Found { total, float },
-        count: count + 1,
-        path,
-    }
-}
+ghost use Rattle.path_answers.specs.Routed.{noneNumber, RoutedBy};
 
 // The answer for a request that passed its checks: the first of the shortest paths above the given list.
 fn sought_route(profile: &[u8], exclude: &[u8], q: Query, given: &[u32], again: bool) -> Routed

@@ -17,10 +17,10 @@ use Rattle.model.specs.Request.{Request}
 use Rattle.model.specs.Answers.{Numbers, numbersOfPath}
 use Rattle.model.specs.Calls.{Outcome}
 use Rattle.model.specs.Series.{Call, Reply, replyTo, callOutcome, lastAfter, run}
-use Rattle.paths.specs.declared.route.Routed.{Routed}
-use Rattle.paths.specs.Routed.{RoutedBy}
+use Rattle.path_answers.specs.declared.Routed.{Routed}
+use Rattle.path_answers.specs.Routed.{RoutedBy}
 use Rattle.series.specs.Calls.{kindOf, callsOf}
-use Rattle.paths.specs.Numbers.{fourOf}
+use Rattle.path_answers.specs.Numbers.{fourOf}
 use Rattle.series.specs.Runs.{numbersOf, bufferOf, Left}
 use Rattle.series.proofs.Forms.{Formed, sum-here, sum-none}
 use Rattle.series.proofs.Pieces.{pasted-take, pasted-drop}

@@ -7,7 +7,7 @@ use lib.ListN.{length}
 use Rattle.model.specs.Lists.{each, over}
 use Rattle.model.specs.Request.{Request}
 use Rattle.model.specs.Series.{Call, Reply, replies}
-use Rattle.paths.specs.Numbers.{fourOf}
+use Rattle.path_answers.specs.Numbers.{fourOf}
 use Rattle.series.specs.declared.SeriesAnswer.{SeriesAnswer}
 use Rattle.series.specs.declared.SeriesAnswer.the-variants.{Done, Malformed}
 use Rattle.series.specs.Calls.{callsOf, malformed}

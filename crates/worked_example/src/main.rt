@@ -14,9 +14,9 @@ use crate::print::print_refusal;
 use crate::print::print_tally;
 use crate::print::text;
 use model::TreeAnswer;
+use path_answers::numbers::four_of;
 use paths::first;
 use paths::next;
-use paths::numbers::four_of;
 use tree_fields::tree_numbers;
 
 mod cases;

@@ -12,7 +12,7 @@ use Rattle.calculator.proofs.path_calls.yq_first.Reads as reads
 use Rattle.calculator.proofs.path_calls.yq_first.Lts as lts
 use Rattle.calculator.proofs.limits.limits_of.Reads as limits-of-reads
 use Rattle.paths.proofs.first.Reads as first-reads
-use Rattle.paths.proofs.numbers.four_of.Reads as four-of-reads
+use Rattle.path_answers.proofs.numbers.four_of.Reads as four-of-reads
 
 limits-of-requires : tie.Need-limits-of-requires
 limits-of-requires c κs = search needs

@@ -6,15 +6,15 @@ use Prim.Native.Nat.{ℕ, suc, _≤_}
 use native.Mathlib.Omega.{arith}
 use native.Mathlib.Numerals.{add-one}
 use Rattle.model.specs.Calls.{Outcome}
-use Rattle.paths.specs.Routed.{RoutedBy}
+use Rattle.path_answers.specs.Routed.{RoutedBy}
 use Rattle.paths.proofs.Outcomes.{next-refused, next-unfit, next-small, next-searched}
 use borrow.Author.Needs.{needs}
 use Rattle.paths.proofs.route.next_route.Statement.{statement}
 use Rattle.paths.proofs.route.next_route.Tie as tie
 use Rattle.paths.proofs.route.next_route.Reads as reads
 use Rattle.paths.proofs.route.next_route.Lts as lts
-use Rattle.paths.proofs.route.refused.Reads as refused-reads
-use Rattle.paths.proofs.route.refused_by.Reads as refused-by-reads
+use Rattle.path_answers.proofs.refused.Reads as refused-reads
+use Rattle.path_answers.proofs.refused_by.Reads as refused-by-reads
 use Rattle.paths.proofs.route.sought_route.Reads as sought-route-reads
 use Rattle.request.proofs.check_request.Reads as check-request-reads
 

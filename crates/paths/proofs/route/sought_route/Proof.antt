@@ -13,7 +13,7 @@ use Rattle.paths.proofs.route.sought_route.Statement.{statement}
 use Rattle.paths.proofs.route.sought_route.Tie as tie
 use Rattle.paths.proofs.route.sought_route.Reads as reads
 use Rattle.paths.proofs.route.sought_route.Lts as lts
-use Rattle.paths.proofs.route.answered.Reads as answered-reads
+use Rattle.path_answers.proofs.answered.Reads as answered-reads
 use Rattle.path_search.proofs.search.Reads as search-reads
 use Rattle.records.proofs.layout.first_version.Reads as first-version-reads
 

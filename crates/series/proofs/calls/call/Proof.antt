@@ -8,8 +8,8 @@ use lib.Seq.{length-take-le}
 use Rattle.model.specs.Request.{Request}
 use Rattle.model.specs.Calls.{first, next}
 use Rattle.model.specs.Series.{callOutcome}
-use Rattle.paths.specs.declared.route.Routed.{Routed}
-use Rattle.paths.specs.Routed.{RoutedBy}
+use Rattle.path_answers.specs.declared.Routed.{Routed}
+use Rattle.path_answers.specs.Routed.{RoutedBy}
 use Rattle.series.specs.Calls.{kindOf}
 use Rattle.series.proofs.calls.call.Statement.{statement}
 use Rattle.series.proofs.calls.call.Tie as tie

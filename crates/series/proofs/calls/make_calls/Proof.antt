@@ -11,7 +11,7 @@ use lib.ListN.{length, getD, take}
 use lib.Seq.{paste}
 use Rattle.model.specs.Answers.{numbersOfPath}
 use Rattle.request.specs.Checked.{requestOf}
-use Rattle.paths.specs.Numbers.{fourOf}
+use Rattle.path_answers.specs.Numbers.{fourOf}
 use Rattle.series.proofs.Forms.{Formed, formed}
 use Rattle.series.proofs.Steps.{Progress, begin, four-long, keptAfter, kept-new, kept-old, room-here, numbers-here, turn, done}
 use Rattle.series.proofs.calls.make_calls.Statement.{statement}

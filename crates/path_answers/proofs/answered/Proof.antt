@@ -1,4 +1,4 @@
--- `route::answered` meets its contract, by whether a path was found.
+-- `answered` meets its contract, by whether a path was found.
 -- Assumes nothing.
 use mathlib.Core.Path.{_≡_, refl, sym, ap, _∙_}
 use native.Mathlib.Omega.{arith}
@@ -6,15 +6,15 @@ use native.Mathlib.Numerals.{add-one}
 use borrow.Author.Tests.{not-true, not-false}
 use Rattle.model.specs.Path.{shortestPaths}
 use Rattle.model.specs.Calls.{greaterThan}
-use Rattle.paths.specs.Routed.{noneNumber}
-use Rattle.paths.proofs.Answers.{none-by, found-by}
+use Rattle.path_answers.specs.Routed.{noneNumber}
+use Rattle.path_answers.proofs.Answers.{none-by, found-by}
 use borrow.Author.Needs.{needs}
-use Rattle.paths.proofs.route.answered.Statement.{statement}
-use Rattle.paths.proofs.route.answered.Tie as tie
-use Rattle.paths.proofs.route.answered.Reads as reads
-use Rattle.paths.proofs.route.answered.Lts as lts
+use Rattle.path_answers.proofs.answered.Statement.{statement}
+use Rattle.path_answers.proofs.answered.Tie as tie
+use Rattle.path_answers.proofs.answered.Reads as reads
+use Rattle.path_answers.proofs.answered.Lts as lts
 use Rattle.path_search.proofs.bound.total_float.Reads as total-float-reads
-use Rattle.paths.proofs.route.none_answer.Reads as none-answer-reads
+use Rattle.path_answers.proofs.none_answer.Reads as none-answer-reads
 
 none-answer-requires : tie.Need-none-answer-requires
 none-answer-requires c κs = search needs

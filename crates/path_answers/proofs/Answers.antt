@@ -19,9 +19,9 @@ use Rattle.model.specs.Calls.{Outcome, nothing, found, firstOf, greaterThan}
 use Rattle.laws.proofs.Tests.{and-both}
 use Rattle.laws.proofs.Split.{answer-some, answer-none}
 use Rattle.path_search.specs.declared.Sought.{Sought}
-use Rattle.paths.specs.declared.route.Routed.{Routed}
+use Rattle.path_answers.specs.declared.Routed.{Routed}
 use Rattle.path_search.specs.Sought.{SoughtPath, SoughtIs}
-use Rattle.paths.specs.Routed.{noneAnswer, noneNumber, RoutedBy}
+use Rattle.path_answers.specs.Routed.{noneAnswer, noneNumber, RoutedBy}
 
 -- no path is found in a refusal, or in the answer that there is none
 not-found : (r : Refusal) (total : ℕ) (x : Float) → Refused r ≡ Found total x → ⊥

@@ -8,8 +8,8 @@ use Rattle.model.specs.declared.PathAnswer.{PathAnswer}
 use Rattle.model.specs.declared.PathAnswer.the-variants.{NoPath, End}
 use Rattle.model.specs.Answers.{numbersOfPath}
 use Rattle.model.specs.Calls.{Outcome}
-use Rattle.paths.specs.declared.route.Routed.{Routed}
-use Rattle.paths.specs.Numbers.{Real}
+use Rattle.path_answers.specs.declared.Routed.{Routed}
+use Rattle.path_answers.specs.Numbers.{Real}
 
 -- where there is no path: for next nothing greater, for first no admissible path
 abbrev pub noneAnswer : Bool → PathAnswer

@@ -6,9 +6,9 @@ use borrow.Author.Needs.{needs}
 use Rattle.model.specs.declared.PathAnswer.{PathAnswer}
 use Rattle.model.specs.Answers.{numbersOfPath}
 use Rattle.laws.proofs.Tests.{false-T}
-use Rattle.paths.specs.Numbers.{fourOf}
-use Rattle.paths.proofs.numbers.four_of.Statement.{statement}
-use Rattle.paths.proofs.numbers.four_of.Tie as tie
+use Rattle.path_answers.specs.Numbers.{fourOf}
+use Rattle.path_answers.proofs.numbers.four_of.Statement.{statement}
+use Rattle.path_answers.proofs.numbers.four_of.Tie as tie
 
 abbrev told : PathAnswer → List ℕ
 told answer = fourOf (numbersOfPath answer)

@@ -2,7 +2,7 @@
 use model::PathAnswer;
 ghost use mathlib.Core.Path.{_≡_};
 ghost use Rattle.model.specs.Answers.{numbersOfPath};
-ghost use Rattle.paths.specs.Numbers.{fourOf, Real};
+ghost use Rattle.path_answers.specs.Numbers.{fourOf, Real};
 
 // Document 01's number of an answer, its place, and the total both ways.
 pub fn four_of(answer: PathAnswer) -> [u32; 4]
