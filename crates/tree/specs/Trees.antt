@@ -15,7 +15,7 @@ pub record BuiltBy (outcome : Outcome TreeEntry) (room : ℕ) (r : Built) : Type
   pub numbers : numbersOfTree (r .answer) ≡ outcome .numbers
   pub most : r .count ≤ 241
   pub fits : r .count ≤ room
-  pub entries-are : entriesOf (r .count) (r .table .level) (r .table .address) (r .table .reachable) (r .table .cost) ≡ outcome .written
+  pub entries-are : entriesOf (r .count) (r .table .level) (r .table .addresses) (r .table .reaches) ≡ outcome .written
 
 -- the answer, and the lent slice with the entries written at its start and its own rest after them
 pub record TreeLent (outcome : Outcome TreeEntry) (entries : List TreeEntry) (r : TreeAnswer) (entries′ : List TreeEntry) : Type 0 where

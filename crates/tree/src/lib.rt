@@ -6,10 +6,7 @@ use model::TreeAnswer;
 use model::TreeEntry;
 use tree_entries::TreeTable;
 use tree_entries::fill;
-use tree_fields::put::put_addresses;
-use tree_fields::put::put_costs;
 use tree_fields::put::put_levels;
-use tree_fields::put::put_marks;
 use tree_fields::solve;
 ghost use mathlib.Core.Path.{_≡_};
 ghost use lib.ListN.{length};
@@ -56,21 +53,14 @@ pub fn build(
     let answer = solved.answer;
     let n = solved.count;
     let mut level = [0u32; 241];
-    let mut address = [0u32; 241];
-    let mut reachable = [0u8; 241];
-    let mut cost = [0u32; 241];
     put_levels(&starts, solved.places, &mut level);
-    put_addresses(&addresses, n, &mut address);
-    put_marks(&reaches, n, &mut reachable);
-    put_costs(&reaches, n, &mut cost);
     Built {
         answer,
         count: n,
         table: TreeTable {
             level,
-            address,
-            reachable,
-            cost,
+            addresses,
+            reaches,
         },
     }
 }

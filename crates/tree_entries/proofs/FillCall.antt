@@ -42,7 +42,7 @@ Fill 𝓤 H A mem run = Of 𝓤 H A fill.ended (fill.clauses 𝓤 H A mem run)
 
 -- the list that `fill` leaves
 abbrev pub filled : TreeTable → ℕ → List TreeEntry → List TreeEntry
-filled t n ys = over (entriesOf n (t .level) (t .address) (t .reachable) (t .cost)) ys
+filled t n ys = over (entriesOf n (t .level) (t .addresses) (t .reaches)) ys
 
 module _ {M : Type 1} (𝓤 : URA M) (H : Heap 𝓤) (A : Atoms 𝓤) (mem : Memory → SProp 𝓤) (run : Routine → Fun 𝓤) (κ : Lft) (q : Share) (x : RefT (List TreeEntry)) (t : TreeTable) (n : ℕ) where
   -- what the callee's triple binds outside

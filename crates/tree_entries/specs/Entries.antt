@@ -1,5 +1,5 @@
--- The entries of a tree that is worked out as a list of numbers for each field, and the search among entries. Document 01, "Paths and the tree": level,
--- address, reachable and cost.
+-- The entries of a tree that is worked out as lists of numbers, and the search among entries. Document 01, "Paths and the tree": level, address, reachable
+-- and cost.
 use Prim.Native.Nat.{ℕ, suc}
 use mathlib.Core.Bool.{Bool, true, false, _&&_}
 use mathlib.Core.List.{List, [], _∷_, map}
@@ -7,21 +7,22 @@ use lib.ListN.{getD}
 use lib.Dec.{eqb, ltb}
 use Rattle.model.specs.declared.TreeEntry.{TreeEntry}
 use Rattle.model.specs.Lists.{countFrom}
+use Rattle.reaches.specs.Reaches.{reachOf}
 use Rattle.tree_entries.specs.declared.Found.{Found}
 use Rattle.tree_entries.specs.declared.Found.the-variants.{At, Nothing}
 
--- entry i: an entry is reachable where its mark is 1
-abbrev pub entryAt : List ℕ → List ℕ → List ℕ → List ℕ → ℕ → TreeEntry
-entryAt levels addresses marks costs i = record {
+-- entry i: whether and at what cost the destination is reached is one number
+abbrev pub entryAt : List ℕ → List ℕ → List ℕ → ℕ → TreeEntry
+entryAt levels addresses codes i = record {
   level = getD levels i 0;
   address = record { 0 = getD addresses i 0 };
-  reachable = eqb (getD marks i 0) 1;
-  cost = getD costs i 0;
+  reachable = (reachOf (getD codes i 0)) .reachable;
+  cost = (reachOf (getD codes i 0)) .cost;
 }
 
 -- the first n entries
-unfoldable pub entriesOf : ℕ → List ℕ → List ℕ → List ℕ → List ℕ → List TreeEntry
-entriesOf n levels addresses marks costs = map (entryAt levels addresses marks costs) (countFrom 0 n)
+unfoldable pub entriesOf : ℕ → List ℕ → List ℕ → List ℕ → List TreeEntry
+entriesOf n levels addresses codes = map (entryAt levels addresses codes) (countFrom 0 n)
 
 abbrev pub isEntry : ℕ → ℕ → TreeEntry → Bool
 isEntry level address e = eqb (e .level) level && eqb (e .address .0) address

@@ -3,18 +3,18 @@
 // call is covered.
 use model::NodeAddress;
 use model::TreeEntry;
+use reaches::UNREACHABLE;
 ghost use mathlib.Core.Path.{_≡_};
 ghost use Prim.Native.Nat.{_<_, _≤_};
 ghost use lib.ListN.{length};
 ghost use Rattle.model.specs.Lists.{over};
 ghost use Rattle.tree_entries.specs.Entries.{entryAt, entriesOf, isEntry, findFrom, foundBelow};
 
-// A tree as it is worked out: for each field of its entries the numbers in their order.
+// A tree as it is worked out, its entries' numbers in their order: level, address, and how the destination is reached in one number.
 pub struct TreeTable {
     pub level: [u32; 241],
-    pub address: [u32; 241],
-    pub reachable: [u8; 241],
-    pub cost: [u32; 241],
+    pub addresses: [u32; 242],
+    pub reaches: [u32; 242],
 }
 
 // The place of an entry in the slice.
@@ -25,20 +25,31 @@ pub enum Found {
 
 fn entry_of(tree: TreeTable, i: usize) -> TreeEntry
     requires { ⌜ i < 241 ⌝ }
-    ensures { λ r. ⌜ r ≡ entryAt (tree .level) (tree .address) (tree .reachable) (tree .cost) i ⌝ }
+    ensures { λ r. ⌜ r ≡ entryAt (tree .level) (tree .addresses) (tree .reaches) i ⌝ }
 {
+    let level = tree.level[i];
+    let address = NodeAddress(tree.addresses[i]);
+    let reach = tree.reaches[i];
+    if reach == UNREACHABLE {
+        return TreeEntry {
+            level,
+            address,
+            reachable: false,
+            cost: 0,
+        };
+    }
     TreeEntry {
-        level: tree.level[i],
-        address: NodeAddress(tree.address[i]),
-        reachable: tree.reachable[i] == 1,
-        cost: tree.cost[i],
+        level,
+        address,
+        reachable: true,
+        cost: reach,
     }
 }
 
 // The first `n` entries of the tree over the start of the lent slice.
 pub fn fill(entries: &mut [TreeEntry], tree: TreeTable, n: usize)
     requires { ⌜ (n ≤ 241) × (n ≤ length (now entries)) ⌝ }
-    ensures { λ _. ⌜ now (entries .exit) ≡ over (entriesOf n (tree .level) (tree .address) (tree .reachable) (tree .cost)) (now (entries .entry)) ⌝ }
+    ensures { λ _. ⌜ now (entries .exit) ≡ over (entriesOf n (tree .level) (tree .addresses) (tree .reaches)) (now (entries .entry)) ⌝ }
 {
     let mut i = 0;
     while i < n {

@@ -72,7 +72,7 @@ abbrev none : TreeEntry
 none = record { level = 0; address = record { 0 = 0 }; reachable = Bool.false; cost = 0 }
 
 abbrev entry : TreeTable → ℕ → TreeEntry
-entry t i = entryAt (t .level) (t .address) (t .reachable) (t .cost) i
+entry t i = entryAt (t .level) (t .addresses) (t .reaches) i
 
 -- the contract that the proof cites
 abbrev EntryOf : {M : Type 1} (𝓤 : URA M) (H : Heap 𝓤) (A : Atoms 𝓤) (mem : Memory → SProp 𝓤) (run : Routine → Fun 𝓤) → Contract 𝓤
@@ -90,10 +90,10 @@ module _ {M : Type 1} (𝓤 : URA M) (H : Heap 𝓤) (A : Atoms 𝓤) (W : Given
 
   -- the entries to write, and the list after i turns
   abbrev src : List TreeEntry
-  src = entriesOf n (t .level) (t .address) (t .reachable) (t .cost)
+  src = entriesOf n (t .level) (t .addresses) (t .reaches)
 
   abbrev now : ℕ → List TreeEntry
-  now i = after n (t .level) (t .address) (t .reachable) (t .cost) ys i
+  now i = after n (t .level) (t .addresses) (t .reaches) ys i
 
   abbrev bound : walkOf 𝓤 H A fill.ended stayed (fill.clauses 𝓤 H A mem run) .Ghost
   bound = (((κ, tt), (q, tt), tt, (record { ptr = (b, o); name = γ; now = ys }, (t, (n, tt))), (s ∷ [], (v ∷ [], (vint w64 n ∷ [], tt)))), tt)
@@ -152,7 +152,7 @@ module _ {M : Type 1} (𝓤 : URA M) (H : Heap 𝓤) (A : Atoms 𝓤) (W : Given
           elem-out ! E.the-row (Is E.the-row) (shows 𝓤 H A E.the-row) (LL.vals E.the-type E′.the-laws) (LL.tells E.the-type E′.the-laws) fullShare (now i) i none b o within (λ _.
           assigns ! (of-opd ! (load ! (from ! (stop !)) (look ! 10 refl))) (from ! (hop ! (look ! 6 refl) (stop !))) (store-raw ! 0 refl (typed r w is)) $
           move ! (1 ∷ []) $ drop ! $ owned ! E.the-row (Is E.the-row) (LL.makes E.the-type E′.the-plain 𝓤 H A) r (w ∷ []) is $ move ! (1 ∷ 0 ∷ []) $ elem-put ! E.the-row fullShare (now i) i r (w ∷ []) b o within $
-          rewrite ! 0 (λ (zs : List TreeEntry). ‵ (row E.the-row fullShare zs b o)) (ap (set (now i) i) e ∙ after-next n (t .level) (t .address) (t .reachable) (t .cost) ys i small fits) refl $
+          rewrite ! 0 (λ (zs : List TreeEntry). ‵ (row E.the-row fullShare zs b o)) (ap (set (now i) i) e ∙ after-next n (t .level) (t .addresses) (t .reaches) ys i small fits) refl $
           assigns-last ! (bin ! (load ! (from ! (stop !)) (look ! 12 refl)) (lit ! tt) (record { fits = next-fits })) (from ! (stop !)) (store ! 12 refl (tt, record { fits = next-fits })) $
           rewrite ! 12 (λ (j : ℕ). ‵ (fat fullShare (tyInt w64) l₄ 0 (vint w64 j))) (add-one i) refl $
           forget ! 4 refl $ forget ! 6 refl $ forget ! 8 refl $ forget ! 10 refl $ by ! k))
@@ -167,7 +167,7 @@ module _ {M : Type 1} (𝓤 : URA M) (H : Heap 𝓤) (A : Atoms 𝓤) (W : Given
           next-fits = omega arith
 
           within : i < length (now i)
-          within = omega (arith, length-after n (t .level) (t .address) (t .reachable) (t .cost) ys i (omega arith) fits)
+          within = omega (arith, length-after n (t .level) (t .addresses) (t .reaches) ys i (omega arith) fits)
 
       -- the turn that leaves the loop, and the rest of the body: the borrow is closed at what is written, and given up
       ends : (X : SProp 𝓤) → Sq W (At n) (runs (𝓣 .C) (𝓣 .Λ) En body.turn-1 (anyQ (afterTurn 𝓤 H X Left)))
@@ -181,10 +181,10 @@ module _ {M : Type 1} (𝓤 : URA M) (H : Heap 𝓤) (A : Atoms 𝓤) (W : Given
           returns ! (look ! 18 refl) $ forget ! 8 refl $ forget ! 10 refl $ forget ! 12 refl $ forget ! 14 refl $ forget ! 16 refl $ forget ! 18 refl $
           move ! (18 ∷ 19 ∷ []) $ free1 ! $ move ! (16 ∷ 17 ∷ []) $ free1 ! $ move ! (14 ∷ 15 ∷ []) $ free1 ! $ move ! (12 ∷ 13 ∷ []) $ free1 ! $ move ! (10 ∷ 11 ∷ []) $ free1 ! $
           move ! (8 ∷ 9 ∷ []) $ free1 ! $ move ! (6 ∷ 7 ∷ []) $ free1 ! $ move ! (4 ∷ 5 ∷ []) $ free1 ! $ move ! (2 ∷ 3 ∷ []) $ free1 ! $ free0 ! $
-          by ! (exits (now n) (after-all n (t .level) (t .address) (t .reachable) (t .cost) ys) same)
+          by ! (exits (now n) (after-all n (t .level) (t .addresses) (t .reaches) ys) same)
         where
           same : length (now n) ≡ length ys
-          same = length-after n (t .level) (t .address) (t .reachable) (t .cost) ys n (omega arith) fits
+          same = length-after n (t .level) (t .addresses) (t .reaches) ys n (omega arith) fits
 
       started : Sq W (At 0) (runs (𝓣 .C) (𝓣 .Λ) En body.t-2 (atRet En Post))
       started = first ! $ blocks ! $ counts W 𝓣 n At Left more ends
