@@ -3,24 +3,25 @@ use crate::cases::A_LONGER_PATH;
 use crate::cases::BACK;
 use crate::cases::ONWARD;
 use crate::cases::PROFILE_W;
+use crate::cases::S;
 use crate::cases::WITHOUT_Q;
-use crate::cases::destination;
-use crate::cases::ingress;
+use crate::cases::Z;
 use crate::cases::limits;
-use crate::cases::source;
-use crate::print::print_answer;
-use crate::print::print_entry;
-use crate::print::print_refusal;
-use crate::print::print_tally;
-use crate::print::text;
+use model::DomainIndex;
+use model::NodeAddress;
 use model::TreeAnswer;
 use path_answers::numbers::four_of;
 use paths::first;
 use paths::next;
+use printing::print_answer;
+use printing::print_entry;
+use printing::print_path;
+use printing::print_refusal;
+use printing::print_tally;
+use printing::text;
 use tree_fields::tree_numbers;
 
 mod cases;
-mod print;
 
 fn print_entries(
     entries: u32,
@@ -46,9 +47,9 @@ fn show_tree(profile: &[u8], include: &[u8], exclude: &[u8]) {
     let mut cost = [0u32; 5];
     let answer = tree_numbers(
         profile,
-        ingress(),
-        source(),
-        destination(),
+        DomainIndex(0),
+        NodeAddress(S),
+        NodeAddress(Z),
         include,
         exclude,
         limits(),
@@ -72,9 +73,9 @@ fn show_tree(profile: &[u8], include: &[u8], exclude: &[u8]) {
 fn show_first(profile: &[u8], include: &[u8], exclude: &[u8], path: &mut [u32; 4]) -> bool {
     let answer = first(
         profile,
-        ingress(),
-        source(),
-        destination(),
+        DomainIndex(0),
+        NodeAddress(S),
+        NodeAddress(Z),
         include,
         exclude,
         limits(),
@@ -93,9 +94,9 @@ fn show_next(
 ) -> bool {
     let answer = next(
         profile,
-        ingress(),
-        source(),
-        destination(),
+        DomainIndex(0),
+        NodeAddress(S),
+        NodeAddress(Z),
         include,
         exclude,
         limits(),
@@ -120,7 +121,8 @@ fn show_paths(profile: &[u8], include: &[u8], exclude: &[u8]) {
 // The path after one that isn't listed.
 fn show_next_after(profile: &[u8], include: &[u8], exclude: &[u8]) {
     let mut path = [0u32; 4];
-    text(b"after 192.0.2.1 192.0.2.11 192.0.2.21 192.0.2.99, a longer path,\n");
+    print_path(b"after ", A_LONGER_PATH);
+    text(b"\n");
     show_next(profile, include, exclude, &A_LONGER_PATH, &mut path);
 }
 
@@ -131,25 +133,28 @@ fn show(title: &[u8], profile: &[u8], include: &[u8], exclude: &[u8]) {
     show_next_after(profile, include, exclude);
 }
 
-fn main() {
-    let profile = PROFILE_W;
+fn show_requests(profile: &[u8]) {
     let nothing = [0u8; 0];
     show(
-        b"From 192.0.2.1 to 192.0.2.99 by AS 64496, 64497 and 64498, bandwidth 100\n",
-        &profile,
+        b"Profile W by AS 64497 and 64498\n",
+        profile,
         &ONWARD,
         &nothing,
     );
     show(
         b"\nThe same without 192.0.2.12\n",
-        &profile,
+        profile,
         &ONWARD,
         &WITHOUT_Q,
     );
     show(
-        b"\nBy AS 64496, 64497 and 64496 again\n",
-        &profile,
+        b"\nBy AS 64497 and back to 64496\n",
+        profile,
         &BACK,
         &nothing,
     );
+}
+
+fn main() {
+    show_requests(&PROFILE_W);
 }

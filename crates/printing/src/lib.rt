@@ -1,43 +1,36 @@
-// Lines of text on standard output.
+// What the calls answer as lines of text on standard output. No contract can say what is written: these functions are proved to be safe and to end, and a program over them is held to its stored output.
 use libc::STDOUT_FILENO;
 
 pub fn text(bytes: &[u8]) {
     io::write_all(STDOUT_FILENO, bytes);
 }
 
-fn number(n: u32) {
+fn number(before: &[u8], n: u32) {
+    text(before);
     io::print_decimal(STDOUT_FILENO, n as u64);
 }
 
 // An IPv4 address in dotted form.
-fn address(a: u32) {
-    number(a >> 24);
-    text(b".");
-    number(a >> 16 & 255);
-    text(b".");
-    number(a >> 8 & 255);
-    text(b".");
-    number(a & 255);
+fn address(before: &[u8], a: u32) {
+    number(before, a >> 24);
+    number(b".", a >> 16 & 255);
+    number(b".", a >> 8 & 255);
+    number(b".", a & 255);
 }
 
 // How many entries a tree has, and how many hops were examined for it.
 pub fn print_tally(entries: u32, tally: u32) {
-    text(b"tree: ");
-    number(entries);
-    text(b" entries, ");
-    number(tally);
+    number(b"tree: ", entries);
+    number(b" entries, ", tally);
     text(b" hops examined\n");
 }
 
 // One entry of a tree.
 pub fn print_entry(level: u32, node: u32, reachable: u8, cost: u32) {
-    text(b"  level ");
-    number(level);
-    text(b": ");
-    address(node);
+    number(b"  level ", level);
+    address(b": ", node);
     if reachable == 1 {
-        text(b", reachable, cost ");
-        number(cost);
+        number(b", reachable, cost ", cost);
         text(b"\n");
     } else {
         text(b", not reachable\n");
@@ -47,23 +40,22 @@ pub fn print_entry(level: u32, node: u32, reachable: u8, cost: u32) {
 // What a call that is refused answers.
 pub fn print_refusal(call: &[u8], refusal: u32, place: u32) {
     text(call);
-    text(b": refused, number ");
-    number(refusal);
-    text(b", place ");
-    number(place);
+    number(b": refused, number ", refusal);
+    number(b", place ", place);
     text(b"\n");
 }
 
+// Addresses from a source to a destination.
+pub fn print_path(before: &[u8], path: [u32; 4]) {
+    address(before, path[0]);
+    address(b" ", path[1]);
+    address(b" ", path[2]);
+    address(b" ", path[3]);
+}
+
 fn print_found(path: [u32; 4], total: u32, float: u32) {
-    address(path[0]);
-    text(b" ");
-    address(path[1]);
-    text(b" ");
-    address(path[2]);
-    text(b" ");
-    address(path[3]);
-    text(b", total ");
-    number(total);
+    print_path(b": ", path);
+    number(b", total ", total);
     text(b" (");
     io::print_hex(STDOUT_FILENO, float as u64, 8);
     text(b")\n");
@@ -77,7 +69,6 @@ pub fn print_answer(call: &[u8], numbers: [u32; 4], path: [u32; 4]) -> bool {
     }
     text(call);
     if numbers[0] == 0 {
-        text(b": ");
         print_found(path, numbers[2], numbers[3]);
         return true;
     }
