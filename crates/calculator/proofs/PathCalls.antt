@@ -15,11 +15,10 @@ use Rattle.series.specs.declared.SeriesAnswer.{SeriesAnswer}
 use Rattle.series.specs.Runs.{numberOfSeries, RunIs}
 use Rattle.calculator.specs.Exports.{PathExport, SeriesExport}
 
+-- ---- the four numbers of an answer, told and stored
+
 abbrev rest : List ℕ → List ℕ
 rest four = getD four 1 0 ∷ getD four 2 0 ∷ getD four 3 0 ∷ []
-
-told-answer : (a : PathAnswer) → getD (fourOf (numbersOfPath a)) 0 0 ≡ (numbersOfPath a) .answer
-told-answer a = refl
 
 told-others : (a : PathAnswer) → rest (fourOf (numbersOfPath a)) ≡ (numbersOfPath a) .others
 told-others (Found n x) = refl
@@ -27,16 +26,23 @@ told-others NoPath = refl
 told-others End = refl
 told-others (Refused r) = refl
 
--- the limits are those that the call was given
+pub told
+    : (a : PathAnswer) (four : List ℕ) → four ≡ fourOf (numbersOfPath a)
+    → (getD four 0 0 ≡ (numbersOfPath a) .answer) × (getD four 1 0 ∷ getD four 2 0 ∷ getD four 3 0 ∷ [] ≡ (numbersOfPath a) .others)
+told a four is = (ap (λ (l : List ℕ). getD l 0 0) is, ap rest is ∙ told-others a)
+
+-- ---- the limits are those that the call was given
+
 pub path-export
-    : (by : Limits → Outcome ℕ) (limits given : Limits) (a : PathAnswer) (four old path : List ℕ)
-    → limits ≡ given → four ≡ fourOf (numbersOfPath a) → numbersOfPath a ≡ (by limits) .numbers → path ≡ over ((by limits) .written) old
-    → PathExport (by given) old (getD four 0 0) (getD four 1 0 ∷ getD four 2 0 ∷ getD four 3 0 ∷ []) path
-path-export by limits given a four old path same is numbers written =
-    subst (λ (l : Limits). PathExport (by l) old (getD four 0 0) (rest four) path) same
+    : (by : Limits → Outcome ℕ) (limits given : Limits) (a : PathAnswer) (r : ℕ) (numbers old path : List ℕ)
+    → limits ≡ given → r ≡ (numbersOfPath a) .answer → numbers ≡ (numbersOfPath a) .others
+    → numbersOfPath a ≡ (by limits) .numbers → path ≡ over ((by limits) .written) old
+    → PathExport (by given) old r numbers path
+path-export by limits given a r numbers old path same answer others is written =
+    subst (λ (l : Limits). PathExport (by l) old r numbers path) same
     (record {
-      answer = ap (λ (l : List ℕ). getD l 0 0) is ∙ told-answer a ∙ ap (λ (n : Numbers). n .answer) numbers;
-      others = ap rest is ∙ told-others a ∙ ap (λ (n : Numbers). n .others) numbers;
+      answer = answer ∙ ap (λ (n : Numbers). n .answer) is;
+      others = others ∙ ap (λ (n : Numbers). n .others) is;
       in-path = written;
     })
 

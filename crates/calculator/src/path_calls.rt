@@ -2,16 +2,30 @@
 use crate::limits::limits_of;
 use model::DomainIndex;
 use model::NodeAddress;
+use model::PathAnswer;
 use path_answers::numbers::four_of;
 use paths::first;
 use paths::next;
 use series::SeriesAnswer;
 use series::run;
+ghost use mathlib.Core.Path.{_≡_};
 ghost use lib.ListN.{length};
+ghost use Rattle.model.specs.Answers.{numbersOfPath};
 ghost use Rattle.model.specs.Calls as Calls;
 ghost use Rattle.request.specs.Bits.{limitsOfBits};
 ghost use Rattle.request.specs.Checked.{requestOf};
+ghost use Rattle.path_answers.specs.Numbers.{Real};
 ghost use Rattle.calculator.specs.Exports.{PathExport, SeriesExport};
+
+// The number of an answer for a path; the place, the total and the bits of its float are stored.
+fn tell(answer: PathAnswer, numbers: &mut [u32; 3]) -> u32
+    requires { ⌜ Real answer ⌝ }
+    ensures { λ r. ⌜ (r ≡ numbersOfPath answer .answer) × (now (numbers .exit) ≡ numbersOfPath answer .others) ⌝ }
+{
+    let four = four_of(answer);
+    *numbers = [four[1], four[2], four[3]];
+    four[0]
+}
 
 // numbers: place, total, bits of the total's float
 #[no_mangle]
@@ -41,9 +55,7 @@ pub extern "C" fn yq_first(
         limits,
         path,
     );
-    let four = four_of(answer);
-    *numbers = [four[1], four[2], four[3]];
-    four[0]
+    tell(answer, numbers)
 }
 
 // numbers: as for yq_first
@@ -76,9 +88,7 @@ pub extern "C" fn yq_next(
         given,
         path,
     );
-    let four = four_of(answer);
-    *numbers = [four[1], four[2], four[3]];
-    four[0]
+    tell(answer, numbers)
 }
 
 // four numbers for each call: its answer, place, total, bits of the total's float

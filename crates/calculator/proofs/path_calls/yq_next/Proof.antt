@@ -1,4 +1,4 @@
--- `path_calls::yq_next` meets its contract: the limits are those of the bits, and the answer's four numbers are told and stored.
+-- `path_calls::yq_next` meets its contract: the limits are those of the bits, and the answer is told.
 -- Assumes nothing.
 use lib.ListN.{length}
 use Rattle.model.specs.declared.Limits.{Limits}
@@ -11,8 +11,8 @@ use Rattle.calculator.proofs.path_calls.yq_next.Tie as tie
 use Rattle.calculator.proofs.path_calls.yq_next.Reads as reads
 use Rattle.calculator.proofs.path_calls.yq_next.Lts as lts
 use Rattle.calculator.proofs.limits.limits_of.Reads as limits-of-reads
+use Rattle.calculator.proofs.path_calls.tell.Reads as tell-reads
 use Rattle.paths.proofs.next.Reads as next-reads
-use Rattle.path_answers.proofs.numbers.four_of.Reads as four-of-reads
 
 limits-of-requires : tie.Need-limits-of-requires
 limits-of-requires c κs = search needs
@@ -20,45 +20,22 @@ limits-of-requires c κs = search needs
 next-requires : tie.Need-next-requires
 next-requires c κs = search needs
 
-four-of-requires : tie.Need-four-of-requires
-four-of-requires c κs = search needs
-
-array-read-result : tie.Need-array-read-result
-array-read-result c = search needs
-
-array-read-t27 : tie.Need-array-read-t27
-array-read-t27 c = search needs
-
-array-read-t30 : tie.Need-array-read-t30
-array-read-t30 c = search needs
-
-array-read-result-2 : tie.Need-array-read-result-2
-array-read-result-2 c = search needs
+tell-requires : tie.Need-tell-requires
+tell-requires c κs = search needs
 
 same-length : tie.Need-same-length
 same-length c = search needs
 
 returns : tie.Need-returns
 returns c =
-    let start = c .before .before .before .before .before .before .before .before .before .before .before .before in
-    let a = start .args in
+    let a = c .before .before .before .before .before .before .before .before .before .before .before .before .args in
     let call = c .before .before .before .before .next in
     path-export
     (λ (limits : Limits).
     Calls.next (requestOf (a .profile .now) (a .ingress) (a .source) (a .destination) (a .include .now) (a .exclude .now) limits) (a .given .now) (length (a .path .now)))
-    _ _ (call .result) (c .before .four-of .result) (a .path .now) _
-    (c .before .before .before .before .before .before .limits-of .ensures) (c .before .four-of .ensures) (call .ensures .1 .0) (call .ensures .1 .1)
+    _ _ (call .result) _ _ (a .path .now) _
+    (c .before .before .before .before .before .before .limits-of .ensures) (c .tell .ensures .0) (c .tell .ensures .1) (call .ensures .1 .0) (call .ensures .1 .1)
 
 pub yq-next-spec : {M : Type 1} → statement M
 yq-next-spec =
-    tie.close
-    (tie.spec
-    limits-of-requires
-    next-requires
-    four-of-requires
-    array-read-result
-    array-read-t27
-    array-read-t30
-    array-read-result-2
-    same-length
-    returns)
+    tie.close (tie.spec limits-of-requires next-requires tell-requires same-length returns)

@@ -1,0 +1,38 @@
+-- `path_calls::tell` meets its contract: the answer's four numbers, the first told and the others stored.
+-- Assumes nothing.
+use Rattle.calculator.proofs.PathCalls.{told}
+use borrow.Author.Needs.{needs}
+use Rattle.calculator.proofs.path_calls.tell.Statement.{statement}
+use Rattle.calculator.proofs.path_calls.tell.Tie as tie
+use Rattle.calculator.proofs.path_calls.tell.Reads as reads
+use Rattle.calculator.proofs.path_calls.tell.Lts as lts
+use Rattle.path_answers.proofs.numbers.four_of.Reads as four-of-reads
+
+four-of-requires : tie.Need-four-of-requires
+four-of-requires c κs = search needs
+
+array-read-result : tie.Need-array-read-result
+array-read-result c = search needs
+
+array-read-t10 : tie.Need-array-read-t10
+array-read-t10 c = search needs
+
+array-read-t13 : tie.Need-array-read-t13
+array-read-t13 c = search needs
+
+array-read-result-2 : tie.Need-array-read-result-2
+array-read-result-2 c = search needs
+
+returns : tie.Need-returns
+returns c = told (c .before .before .args .answer) (c .before .four-of .result) (c .before .four-of .ensures)
+
+pub tell-spec : {M : Type 1} → statement M
+tell-spec =
+    tie.close
+    (tie.spec
+    four-of-requires
+    array-read-result
+    array-read-t10
+    array-read-t13
+    array-read-result-2
+    returns)
