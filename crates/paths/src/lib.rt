@@ -17,7 +17,7 @@ ghost use Rattle.path_answers.specs.Numbers.{Real};
 pub mod route;
 
 // The first `n` of some addresses over the start of a lent list.
-pub fn put_addresses(from: [u32; 17], n: usize, path: &mut [u32])
+fn put_addresses(from: [u32; 17], n: usize, path: &mut [u32])
     requires { ⌜ (n ≤ 17) × (n ≤ length (now path)) × (length from ≡ 17) ⌝ }
     ensures { λ _. ⌜ now (path .exit) ≡ over (take n from) (now (path .entry)) ⌝ }
 {
@@ -28,7 +28,7 @@ pub fn put_addresses(from: [u32; 17], n: usize, path: &mut [u32])
     }
 }
 
-// The first of the shortest paths. No check refuses in silence: see `numbersOfPath`.
+// The first of the shortest paths, or why there is none.
 pub fn first(
     profile: &[u8],
     ingress: DomainIndex,
