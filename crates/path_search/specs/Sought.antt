@@ -13,7 +13,7 @@ use Rattle.path_search.specs.declared.Start.{Start}
 use Rattle.path_search.specs.declared.Start.the-variants.{Before, Same, Behind}
 use Rattle.path_search.specs.declared.Sought.{Sought}
 
--- the source stands behind a smaller first address and behind no list at all
+-- a list stands before the source where it is empty or its first address is less
 abbrev pub startIf : Bool → Bool → Start
 startIf true same = Before
 startIf false true = Same
