@@ -1,6 +1,7 @@
 /* Builds the tree of profile W: from every node through which a domain can be
  * entered, the least cost of reaching the destination. Then the same with one
- * node excluded. Run from the top of the repository. */
+ * node excluded, and with the exclusion of two only desired, which no path
+ * keeps. Run from the top of the repository. */
 #include <stdio.h>
 
 #include "yq_profile.h"
@@ -11,6 +12,10 @@ static const uint8_t include[] = {32, 4, 0xFB, 0xF1, 32, 4, 0xFB, 0xF2};
 /* the node 192.0.2.11 */
 static const uint8_t exclude[] = {1, 8, 192, 0, 2, 11, 32, 1};
 
+/* the nodes 192.0.2.11 and 192.0.2.12, only desired: the top bit (X) is set */
+static const uint8_t desired[] = {0x80 | 1, 8, 192, 0, 2, 11, 32, 1,
+                                  0x80 | 1, 8, 192, 0, 2, 12, 32, 1};
+
 static void build(const yq_profile *profile, const yq_request *request)
 {
     yq_entries tree;
@@ -19,7 +24,8 @@ static void build(const yq_profile *profile, const yq_request *request)
         printf("number %u, place %u\n", answer.number, answer.place);
         return;
     }
-    printf("number 0, %zu entries, %u hops examined\n", tree.count, tree.tally);
+    printf("number 0, %zu entries, %u hops examined, round %u\n", tree.count,
+           tree.tally, tree.round);
     for (size_t i = 0; i < tree.count; i++) {
         uint32_t node = tree.entries[i].address;
         printf("%u: %u.%u.%u.%u ", tree.entries[i].level, node >> 24,
@@ -46,6 +52,9 @@ int main(void)
     build(&profile, &request);
     request.exclude.at = exclude;
     request.exclude.count = sizeof exclude;
+    build(&profile, &request);
+    request.exclude.at = desired;
+    request.exclude.count = sizeof desired;
     build(&profile, &request);
     return 0;
 }

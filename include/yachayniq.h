@@ -144,7 +144,13 @@ uint32_t yq_write_list(const uint8_t *profile, size_t profile_count,
  * Builds the backward tree of a request (the virtual shortest path tree of RFC
  * 5441): for each entry node of each domain of the sequence, whether the
  * destination can be reached from it, and the least cost of doing so. The
- * bound isn't applied here.
+ * bound isn't applied to its entries.
+ *
+ * An exclusion whose top bit (X) is set is only desired (RFC 5521). In a first
+ * round all exclusions count. If no path keeps the bound then, and some
+ * exclusion has X set, a second round applies, in which only those with X clear
+ * count, whether or not it finds a path. yq_tree, yq_first, yq_next and
+ * yq_series answer by the round that applies, and an answer 0 names it.
  *
  *   profile         a profile file, as yq_check_profile takes it
  *   ingress         the domain that the sequence starts in, as an index into
@@ -189,7 +195,9 @@ uint32_t yq_write_list(const uint8_t *profile, size_t profile_count,
  *             of the subobject that is refused; else 0
  * numbers[1]  on 0 how many entries the tree has, 1 to 241; else 0
  * numbers[2]  on 0 how many hop records lead from each domain of the sequence
- *             to the next, and inside the last one; else 0
+ *             to the next, and inside the last one, twice that in the second
+ *             round; else 0
+ * numbers[3]  on 0 the round, 1 or 2; else 0
  */
 uint32_t yq_tree(const uint8_t *profile, size_t profile_count,
                  uint16_t ingress, uint32_t source, uint32_t destination,
@@ -201,12 +209,12 @@ uint32_t yq_tree(const uint8_t *profile, size_t profile_count,
                  uint32_t *address, size_t address_count,
                  uint8_t *reachable, size_t reachable_count,
                  uint32_t *cost, size_t cost_count,
-                 uint32_t numbers[3]);
+                 uint32_t numbers[4]);
 
 /*
- * The first of a request's shortest paths: of all paths that keep the bound and
- * have the least total, the least one, compared address by address from the
- * left. The request is as yq_tree takes it.
+ * The first of a request's shortest paths: of all paths that keep the bound, in
+ * the round that applies, and have the least total, the least one, compared
+ * address by address from the left. The request is as yq_tree takes it.
  *
  *   path  the path: the source, an entry node for each domain of the sequence
  *         but the first, and the destination, so 17 elements are always enough
@@ -215,12 +223,13 @@ uint32_t yq_tree(const uint8_t *profile, size_t profile_count,
  *
  *    10 to 32  what yq_tree finds wrong with the request
  *    34  path has fewer elements than a path has addresses
- *     1  no path keeps the bound
+ *     1  no path keeps the bound, in either round
  *     0  the path is at the start of the buffer; the rest of it is untouched
  *
  * numbers[0]  place, as yq_tree stores it
  * numbers[1]  on 0 the path's total cost as a whole number; else 0
  * numbers[2]  on 0 the bits of the 32-bit float of exactly that value; else 0
+ * numbers[3]  on 0 the round, 1 or 2; else 0
  */
 uint32_t yq_first(const uint8_t *profile, size_t profile_count,
                   uint16_t ingress, uint32_t source, uint32_t destination,
@@ -229,7 +238,7 @@ uint32_t yq_first(const uint8_t *profile, size_t profile_count,
                   uint32_t bandwidth_bits, bool bound_counts,
                   uint32_t bound_bits,
                   uint32_t *path, size_t path_count,
-                  uint32_t numbers[3]);
+                  uint32_t numbers[4]);
 
 /*
  * The next of a request's shortest paths after a given list of addresses: the
@@ -258,7 +267,7 @@ uint32_t yq_next(const uint8_t *profile, size_t profile_count,
                  uint32_t bound_bits,
                  const uint32_t *given, size_t given_count,
                  uint32_t *path, size_t path_count,
-                 uint32_t numbers[3]);
+                 uint32_t numbers[4]);
 
 /*
  * Makes a series of calls for first and next on one request, in order. Each
@@ -268,13 +277,14 @@ uint32_t yq_next(const uint8_t *profile, size_t profile_count,
  *   kinds    an element for each call: 0 is a first, 1 a next
  *   sizes    for each call how many addresses its result buffer has
  *   buffers  the calls' result buffers, back to back, each of any content
- *   numbers  four for each call: its answer, place, total as a whole number and
- *            total as the bits of a float; what lies past them is untouched
+ *   numbers  five for each call: its answer, place, total as a whole number,
+ *            total as the bits of a float, and round; what lies past them is
+ *            untouched
  *
  * Returns
  *
  *   100  a kind over 1; counts of kinds and sizes that differ; sizes that do
- *        not add up to the count of buffers; under four numbers for each call.
+ *        not add up to the count of buffers; under five numbers for each call.
  *        Told before the request is looked at, and nothing is written
  *     0  the calls are made
  *
@@ -288,8 +298,8 @@ uint32_t yq_next(const uint8_t *profile, size_t profile_count,
  *     0  a path: first hands out the first one, next the one after that last
  *        handed out. It stands at the start of the call's buffer
  *
- * On any answer but 0 the call's buffer is untouched, its total and float bits
- * are 0, and the path last handed out stays that.
+ * On any answer but 0 the call's buffer is untouched, its total, float bits and
+ * round are 0, and the path last handed out stays that.
  */
 uint32_t yq_series(const uint8_t *profile, size_t profile_count,
                    uint16_t ingress, uint32_t source, uint32_t destination,

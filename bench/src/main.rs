@@ -4,6 +4,7 @@
 mod paths;
 mod race;
 mod tree;
+mod two_rounds;
 
 use race::race;
 use reference::generate;

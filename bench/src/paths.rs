@@ -2,18 +2,23 @@
 //! way but keeps what it finds in maps and counts it.
 
 use crate::race::race;
+use crate::two_rounds::{two_rounds, NAMES};
 use reference::{generate, Question, Request, ShortestPaths};
 use tests::by_hand::{ask, profile_w, SHORT};
 use tests::paths::{first, next, LONGEST};
 
-/// The largest profile with a sequence of 16, the one with the most equal
-/// paths, where next goes on from a late path, and profile W.
+/// The largest profile with a sequence of 16, in one round and in two, the one
+/// with the most equal paths, where next goes on from a late path, and profile
+/// W.
 pub fn first_and_next() {
     let largest = generate::largest_request(0);
     let listed = shortest(&largest.request());
     let after = listed.first().expect("it has a path");
     race_first("first, 16 domains", &largest.request());
     race_next("next, 16 domains", &largest.request(), &after);
+    for (name, case) in NAMES.iter().zip(two_rounds()) {
+        race_first(&format!("first, 16 domains, {name}"), &case.request());
+    }
 
     let equal = generate::equal_paths_request();
     let listed = shortest(&equal.request());
@@ -33,13 +38,13 @@ pub fn first_and_next() {
 }
 
 fn shortest(request: &Request) -> ShortestPaths {
-    ShortestPaths::new(&Question::accept(request).expect("it is accepted"))
+    ShortestPaths::new(Question::accept(request).expect("it is accepted"))
 }
 
 fn race_first(name: &str, request: &Request) {
-    let by = |call: fn(&Request, &mut [u32], &mut [u32; 3]) -> u32| {
+    let by = |call: fn(&Request, &mut [u32], &mut [u32; 4]) -> u32| {
         move || {
-            let (mut path, mut numbers) = ([0; LONGEST], [0; 3]);
+            let (mut path, mut numbers) = ([0; LONGEST], [0; 4]);
             let number = call(request, &mut path, &mut numbers);
             assert_eq!(number, 0);
             (numbers, path)
@@ -50,9 +55,9 @@ fn race_first(name: &str, request: &Request) {
 
 /// Next after a path; it may be the last.
 fn race_next(name: &str, request: &Request, given: &[u32]) {
-    let by = |call: fn(&Request, &[u32], &mut [u32], &mut [u32; 3]) -> u32| {
+    let by = |call: fn(&Request, &[u32], &mut [u32], &mut [u32; 4]) -> u32| {
         move || {
-            let (mut path, mut numbers) = ([0; LONGEST], [0; 3]);
+            let (mut path, mut numbers) = ([0; LONGEST], [0; 4]);
             let number = call(request, given, &mut path, &mut numbers);
             (number, numbers, path)
         }

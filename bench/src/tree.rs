@@ -1,14 +1,15 @@
 //! The tree: the library beside the Rust program that makes the same checks and
-//! one pass over the hop records for each domain of the sequence.
+//! one pass over the hop records for each domain of the sequence and round.
 
 use crate::race::{race, share};
+use crate::two_rounds::{two_rounds, NAMES};
 use reference::{generate, Request};
 use tests::by_hand::{ask, profile_w, SHORT};
 use tests::lists::excluded;
 use tests::tree::MOST_ENTRIES;
 
 /// The largest profile with a sequence of 16, then with a full exclude list,
-/// then profile W.
+/// then in two rounds, then profile W.
 pub fn tree() {
     let largest = generate::largest_request(0);
     let request = largest.request();
@@ -38,12 +39,15 @@ pub fn tree() {
         ..request
     };
     race_tree("tree, 16 domains, 1,024 bytes excluded", &full, 241);
+    for (name, case) in NAMES.iter().zip(two_rounds()) {
+        race_tree(&format!("tree, 16 domains, {name}"), &case.request(), 241);
+    }
 
     let w = profile_w();
     race_tree("tree, profile W", &ask(&w, &SHORT), 5);
 }
 
-type Tree = fn(&Request, &mut [u32], &mut [u32], &mut [u8], &mut [u32], &mut [u32; 3]) -> u32;
+type Tree = fn(&Request, &mut [u32], &mut [u32], &mut [u8], &mut [u32], &mut [u32; 4]) -> u32;
 
 type Buffers = ([[u32; MOST_ENTRIES]; 3], [u8; MOST_ENTRIES]);
 
@@ -57,10 +61,10 @@ fn race_tree(name: &str, request: &Request, entries: u32) {
     );
 }
 
-fn built(call: Tree, request: &Request) -> (u32, [u32; 3], Buffers) {
+fn built(call: Tree, request: &Request) -> (u32, [u32; 4], Buffers) {
     let (mut words, mut reachable) = ([[0; MOST_ENTRIES]; 3], [0; MOST_ENTRIES]);
     let [level, address, cost] = &mut words;
-    let mut numbers = [0; 3];
+    let mut numbers = [0; 4];
     let number = call(request, level, address, &mut reachable, cost, &mut numbers);
     (number, numbers, (words, reachable))
 }

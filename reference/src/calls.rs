@@ -55,17 +55,18 @@ pub fn write_list(
     settle(result, numbers)
 }
 
-/// Fills in the tree. `numbers`: place, how many entries, hops examined.
+/// Fills in the tree of the round that applies. `numbers`: place, how many
+/// entries, hops examined, round.
 pub fn tree(
     request: &Request,
     level: &mut [u32],
     address: &mut [u32],
     reachable: &mut [u8],
     cost: &mut [u32],
-    numbers: &mut [u32; 3],
+    numbers: &mut [u32; 4],
 ) -> u32 {
-    let result = Question::accept(request).and_then(|question| {
-        let tree = Tree::new(&question);
+    let result = Question::accept(request).and_then(|mut question| {
+        let tree = question.settle_round(Tree::new, Tree::total);
         let needed = tree.entry_count();
         enough_room(
             &[level.len(), address.len(), reachable.len(), cost.len()],
@@ -81,30 +82,33 @@ pub fn tree(
                 at += 1;
             }
         }
-        Ok([0, needed as u32, tree.hops_examined() as u32])
+        // Each round up to this one goes over the same hops.
+        let hops_examined = question.round * tree.hops_examined() as u32;
+        Ok([0, needed as u32, hops_examined, question.round])
     });
     settle(result, numbers)
 }
 
-/// The first shortest path. `numbers`: place, total, the total's float bits.
-pub fn first(request: &Request, path: &mut [u32], numbers: &mut [u32; 3]) -> u32 {
+/// The first shortest path. `numbers`: place, total, the total's float bits,
+/// round.
+pub fn first(request: &Request, path: &mut [u32], numbers: &mut [u32; 4]) -> u32 {
     let result = Question::accept(request).and_then(|question| {
         enough_room(&[path.len()], question.path_length())?;
-        let shortest = ShortestPaths::new(&question);
-        hand_out(shortest.first(), shortest.total(), path, 1)
+        let shortest = ShortestPaths::new(question);
+        hand_out(shortest.first(), &shortest, path, 1)
     });
     settle(result, numbers)
 }
 
 /// The shortest path after a given list. `numbers` as for `first`.
-pub fn next(request: &Request, given: &[u32], path: &mut [u32], numbers: &mut [u32; 3]) -> u32 {
+pub fn next(request: &Request, given: &[u32], path: &mut [u32], numbers: &mut [u32; 4]) -> u32 {
     let result = Question::accept(request).and_then(|question| {
         if given.len() != question.path_length() {
             return NotDone::at(33, 0);
         }
         enough_room(&[path.len()], question.path_length())?;
-        let shortest = ShortestPaths::new(&question);
-        hand_out(shortest.next(given), shortest.total(), path, 2)
+        let shortest = ShortestPaths::new(question);
+        hand_out(shortest.next(given), &shortest, path, 2)
     });
     settle(result, numbers)
 }
@@ -118,16 +122,16 @@ pub fn enough_room(lent: &[usize], needed: usize) -> Result<(), NotDone> {
     }
 }
 
-/// Writes the path found; without one, answers `none`.
+/// Writes the path found among the shortest; without one, answers `none`.
 fn hand_out(
     found: Option<Vec<u32>>,
-    total: Option<u32>,
+    shortest: &ShortestPaths,
     path: &mut [u32],
     none: u32,
-) -> Result<[u32; 3], NotDone> {
-    let (Some(found), Some(total)) = (found, total) else {
+) -> Result<[u32; 4], NotDone> {
+    let (Some(found), Some(total)) = (found, shortest.total()) else {
         return NotDone::at(none, 0);
     };
     path[..found.len()].copy_from_slice(&found);
-    Ok([0, total, bits_of_whole(total)])
+    Ok([0, total, bits_of_whole(total), shortest.round()])
 }

@@ -1,5 +1,5 @@
-//! The meaning of an exclude list: domains and addresses a path must not use.
-//! What the profile lacks changes nothing, so no number belongs to it.
+//! The meaning of the exclusions in force: domains and addresses a path must
+//! not use. What the profile lacks spoils nothing, so no number belongs to it.
 
 use crate::profile::{Domain, Profile};
 use crate::subobject::{Body, Subobject};
@@ -7,16 +7,29 @@ use crate::subobject::{Body, Subobject};
 #[derive(Clone, Debug)]
 pub struct Exclusion {
     domains: Vec<bool>,
-    prefixes: Vec<(u32, u8)>,
+    prefixes: Vec<Prefix>,
+}
+
+/// The addresses that agree with `base` in the bits of `mask`.
+#[derive(Clone, Copy, Debug)]
+struct Prefix {
+    base: u32,
+    mask: u32,
 }
 
 impl Exclusion {
     pub fn new(profile: &Profile, list: &[Subobject]) -> Exclusion {
-        let domains = profile
-            .domains()
-            .map(|domain| list.iter().any(|s| names_domain(&s.body, &domain)))
-            .collect();
-        let prefixes = list.iter().filter_map(|s| prefix_of(&s.body)).collect();
+        let mut domains = vec![false; profile.domain_count()];
+        let mut prefixes = Vec::new();
+        for subobject in list {
+            if let Body::Address { address, prefix } = subobject.body {
+                prefixes.push(Prefix::new(address, prefix));
+                continue;
+            }
+            for (excluded, domain) in domains.iter_mut().zip(profile.domains()) {
+                *excluded |= names_domain(&subobject.body, &domain);
+            }
+        }
         Exclusion { domains, prefixes }
     }
 
@@ -25,9 +38,7 @@ impl Exclusion {
     }
 
     pub fn address(&self, address: u32) -> bool {
-        self.prefixes
-            .iter()
-            .any(|&(base, length)| inside_prefix(address, base, length))
+        self.prefixes.iter().any(|prefix| prefix.holds(address))
     }
 }
 
@@ -40,16 +51,15 @@ fn names_domain(body: &Body, domain: &Domain) -> bool {
     }
 }
 
-fn prefix_of(body: &Body) -> Option<(u32, u8)> {
-    match *body {
-        Body::Address { address, prefix } => Some((address, prefix)),
-        _ => None,
+impl Prefix {
+    fn new(base: u32, length: u8) -> Prefix {
+        // A shift by all 32 bits is what length 32 asks for.
+        let after = u32::MAX.checked_shr(length.into()).unwrap_or(0);
+        Prefix { base, mask: !after }
     }
-}
 
-/// The first `length` bits agree; the bits after them are ignored.
-fn inside_prefix(address: u32, base: u32, length: u8) -> bool {
-    // Widened, because a shift by all 32 bits is what length 0 asks for.
-    let differing = u64::from(address ^ base);
-    differing >> (32 - u32::from(length)) == 0
+    /// The bits after the prefix are ignored.
+    fn holds(&self, address: u32) -> bool {
+        (address ^ self.base) & self.mask == 0
+    }
 }

@@ -1,5 +1,5 @@
-//! A path calculator written from document 01 alone, to be compared case by
-//! case with the proved library.
+//! A path calculator written from document 01 and request [1] of document 02
+//! alone, to be compared case by case with the proved library.
 //!
 //! The six calls take and give what the C interface takes and gives, on
 //! slices: each returns document 01's number and stores the other numbers in
@@ -20,6 +20,7 @@ pub mod plain;
 mod profile;
 mod request;
 mod reserved;
+mod rounds;
 mod sequence;
 mod subobject;
 mod tree;

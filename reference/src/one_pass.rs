@@ -1,10 +1,9 @@
 //! The tree once more, the quick way that its times are held against: the same
-//! checks, then one pass over the hop records for each domain of the sequence,
-//! the last domain first.
+//! checks, then one pass over the hop records for each round and each domain of
+//! the sequence, the last domain first.
 
 use crate::calls::enough_room;
 use crate::outcome::settle;
-use crate::profile::Hop;
 use crate::request::{Question, Request};
 use crate::tree::{arrived, least_in, may_enter, Entry};
 
@@ -15,11 +14,14 @@ pub fn one_pass_tree(
     address: &mut [u32],
     reachable: &mut [u8],
     cost: &mut [u32],
-    numbers: &mut [u32; 3],
+    numbers: &mut [u32; 4],
 ) -> u32 {
-    let result = Question::accept(request).and_then(|question| {
+    let result = Question::accept(request).and_then(|mut question| {
         let bandwidth = f32::from_bits(request.bandwidth_bits);
-        let (levels, hops_examined) = levels(&question, bandwidth);
+        let (levels, hops_examined) = question.settle_round(
+            |question| levels(question, bandwidth),
+            |(levels, _)| levels[0][0].least,
+        );
         let needed = levels.iter().map(Vec::len).sum();
         enough_room(
             &[level.len(), address.len(), reachable.len(), cost.len()],
@@ -33,12 +35,14 @@ pub fn one_pass_tree(
             reachable[at] = u8::from(entry.least.is_some());
             cost[at] = entry.least.unwrap_or(0);
         }
-        Ok([0, needed as u32, hops_examined])
+        // A round before this one went over the same hops.
+        let hops_examined = question.round * hops_examined;
+        Ok([0, needed as u32, hops_examined, question.round])
     });
     settle(result, numbers)
 }
 
-/// The entries of each domain, and the hops examined.
+/// The entries of each domain, and the hops examined, in one round.
 fn levels(question: &Question, bandwidth: f32) -> (Vec<Vec<Entry>>, u32) {
     let mut levels = Vec::with_capacity(question.stops.len());
     let mut hops_examined = 0;
@@ -53,8 +57,7 @@ fn levels(question: &Question, bandwidth: f32) -> (Vec<Vec<Entry>>, u32) {
             entries: Vec::new(),
             starts: Vec::new(),
         };
-        let of_step = |hop: &Hop| hop.from == from && hop.to == to;
-        for hop in question.profile.hops().filter(of_step) {
+        for hop in question.profile.hops_between(from, to) {
             hops_examined += 1;
             let rest = pass.reach(hop.v);
             if f32::from_bits(hop.bandwidth) >= bandwidth {

@@ -1,5 +1,5 @@
-//! The shortest paths (document 01's "listing"): first, next and by position,
-//! without listing them. A step is tight when its cost and the least cost
+//! The shortest paths (document 01's "listing") of the round that applies:
+//! first, next and by position, without listing them. A step is tight when its cost and the least cost
 //! after it make up the least cost before it; a shortest path is a walk over
 //! tight steps, and any tight walk from the source can be completed.
 
@@ -9,6 +9,7 @@ use std::collections::BTreeMap;
 
 #[derive(Clone, Debug)]
 pub struct ShortestPaths {
+    round: u32,
     source: u32,
     length: usize,
     total: Option<u32>,
@@ -19,23 +20,27 @@ pub struct ShortestPaths {
 }
 
 impl ShortestPaths {
-    pub fn new(question: &Question) -> ShortestPaths {
-        let tree = Tree::new(question);
-        let tight = tight_steps(question, &tree);
-        let counts = walk_counts(question, &tight);
+    pub fn new(mut question: Question) -> ShortestPaths {
+        let tree = question.settle_round(Tree::new, Tree::total);
+        let tight = tight_steps(&question, &tree);
+        let counts = walk_counts(&question, &tight);
         // All paths listed have the least total, so the bound admits all of
         // them or none.
-        let total = tree
-            .least(0, question.source)
-            .filter(|&t| question.within_bound(t));
+        let total = tree.total().filter(|&t| question.within_bound(t));
         let length = question.path_length();
         ShortestPaths {
+            round: question.round,
             source: question.source,
             length,
             total,
             tight,
             counts,
         }
+    }
+
+    /// The round that applies, 1 or 2, whether or not it has a path.
+    pub fn round(&self) -> u32 {
+        self.round
     }
 
     /// The total of every listed path; None if none is admissible.

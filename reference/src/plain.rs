@@ -1,7 +1,8 @@
-//! The definitions of paths, tree and listing taken at their word: list every
-//! walk over hop records, then keep those that satisfy each rule. Only for
+//! The definitions of paths, rounds, tree and listing taken at their word: list
+//! every walk over hop records, then keep those that satisfy each rule. Only for
 //! small questions; the tests hold the fast search against it.
 
+use crate::exclusion::Exclusion;
 use crate::outcome::NotDone;
 use crate::profile::Hop;
 use crate::request::{Question, Request};
@@ -28,10 +29,21 @@ pub struct TreeEntry {
     pub least: Option<u32>,
 }
 
+/// The shortest paths of the round that applies, ascending.
+#[derive(Clone, Debug, PartialEq, Eq)]
+pub struct Listed {
+    pub paths: Vec<Vec<u32>>,
+    /// None if there is no path.
+    pub total: Option<u32>,
+    pub round: u32,
+}
+
 /// An accepted request, with the floats as the machine's own.
 #[derive(Clone, Debug)]
 pub struct Plain<'a> {
     question: Question<'a>,
+    /// What is excluded in each round; a second where some exclusion has X set.
+    rounds: Vec<Exclusion>,
     bandwidth: f32,
     bound: Option<f64>,
 }
@@ -40,8 +52,20 @@ impl<'a> Plain<'a> {
     pub fn new(request: &Request<'a>) -> Result<Plain<'a>, NotDone> {
         let question = Question::accept(request)?;
         let bound = f64::from(f32::from_bits(request.bound_bits));
+        // Read from a request of its own, which has no others.
+        let demanded = demanded(request.exclude);
+        let mut rounds = vec![question.exclusion.clone()];
+        if demanded.len() < request.exclude.len() {
+            let exclude = &demanded[..];
+            let alone = Question::accept(&Request {
+                exclude,
+                ..*request
+            })?;
+            rounds.push(alone.exclusion);
+        }
         Ok(Plain {
             question,
+            rounds,
             bandwidth: f32::from_bits(request.bandwidth_bits),
             bound: request.bound_counts.then_some(bound),
         })
@@ -71,30 +95,45 @@ impl<'a> Plain<'a> {
         most
     }
 
-    /// All admissible paths with the least total, ascending.
-    pub fn listing(&self) -> (Vec<Vec<u32>>, Option<u32>) {
-        let admissible: Vec<Walk> = self
-            .walks(0, self.question.source)
-            .into_iter()
-            .filter(|walk| self.keeps_rules(0, walk))
-            .filter(|walk| self.bound.is_none_or(|b| f64::from(walk.total()) <= b))
-            .collect();
-        let least = admissible.iter().map(Walk::total).min();
+    /// The round that applies, counted from 0, and its admissible paths.
+    fn admissible(&self) -> (usize, Vec<Walk>) {
+        let mut walks = self.walks(0, self.question.source);
+        walks.retain(|walk| self.bound.is_none_or(|b| f64::from(walk.total()) <= b));
+        let of_round = |round: usize| -> Vec<Walk> {
+            let kept = walks.iter().filter(|walk| self.keeps_rules(round, 0, walk));
+            kept.cloned().collect()
+        };
+        let first = of_round(0);
+        match first.is_empty() && self.rounds.len() > 1 {
+            true => (1, of_round(1)),
+            false => (0, first),
+        }
+    }
+
+    /// All admissible paths with the least total.
+    pub fn listing(&self) -> Listed {
+        let (round, admissible) = self.admissible();
+        let total = admissible.iter().map(Walk::total).min();
         let mut paths: Vec<Vec<u32>> = admissible
             .into_iter()
-            .filter(|walk| Some(walk.total()) == least)
+            .filter(|walk| Some(walk.total()) == total)
             .map(|walk| walk.addresses)
             .collect();
         paths.sort();
-        (paths, least)
+        Listed {
+            paths,
+            total,
+            round: round as u32 + 1,
+        }
     }
 
-    /// The entries of the tree in order, and the hops examined.
-    pub fn tree(&self) -> (Vec<TreeEntry>, u32) {
+    /// The entries of the tree in order, the hops examined, and the round.
+    pub fn tree(&self) -> (Vec<TreeEntry>, u32, u32) {
+        let (round, _) = self.admissible();
         let mut entries = Vec::new();
         for level in 0..=self.question.last() {
             for address in self.entry_nodes(level) {
-                let least = self.least(level, address);
+                let least = self.least(round, level, address);
                 entries.push(TreeEntry {
                     level: level as u32,
                     address,
@@ -102,10 +141,12 @@ impl<'a> Plain<'a> {
                 });
             }
         }
-        let tally: usize = (0..=self.question.last())
-            .map(|i| self.step(i).count())
-            .sum();
-        (entries, tally as u32)
+        let of_round = |_| {
+            let steps = 0..=self.question.last();
+            steps.map(|i| self.step(i).count()).sum::<usize>()
+        };
+        let tally: usize = (0..=round).map(of_round).sum();
+        (entries, tally as u32, round as u32 + 1)
     }
 
     fn entry_nodes(&self, level: usize) -> Vec<u32> {
@@ -118,10 +159,10 @@ impl<'a> Plain<'a> {
         nodes
     }
 
-    fn least(&self, level: usize, address: u32) -> Option<u32> {
+    fn least(&self, round: usize, level: usize, address: u32) -> Option<u32> {
         self.walks(level, address)
             .iter()
-            .filter(|walk| self.keeps_rules(level, walk))
+            .filter(|walk| self.keeps_rules(round, level, walk))
             .map(Walk::total)
             .min()
     }
@@ -154,11 +195,11 @@ impl<'a> Plain<'a> {
         walks
     }
 
-    /// Destination, bandwidth, exclusions and entry constraints, for a walk
-    /// that begins in domain `level`.
-    fn keeps_rules(&self, level: usize, walk: &Walk) -> bool {
+    /// Destination, bandwidth, a round's exclusions and entry constraints, for
+    /// a walk that begins in domain `level`.
+    fn keeps_rules(&self, round: usize, level: usize, walk: &Walk) -> bool {
         let stops = &self.question.stops[level..];
-        let excluded = &self.question.exclusion;
+        let excluded = &self.rounds[round];
         let arrives = walk.addresses.last() == Some(&self.question.destination);
         let wide_enough = walk
             .hops
@@ -172,6 +213,20 @@ impl<'a> Plain<'a> {
             .all(|(stop, &address)| stop.entry.is_none_or(|entry| entry == address));
         arrives && wide_enough && domains_free && addresses_free && entries_kept
     }
+}
+
+/// The exclude list without the subobjects whose top bit is set.
+fn demanded(exclude: &[u8]) -> Vec<u8> {
+    let mut kept = Vec::new();
+    let mut rest = exclude;
+    while let Some(&length) = rest.get(1) {
+        let (subobject, after) = rest.split_at(usize::from(length));
+        if subobject[0] < 0x80 {
+            kept.extend(subobject);
+        }
+        rest = after;
+    }
+    kept
 }
 
 fn extended(walk: &Walk, hops: &[Hop]) -> Vec<Walk> {

@@ -91,6 +91,13 @@ impl<'a> Profile<'a> {
     pub fn hops(&self) -> impl Iterator<Item = Hop> + 'a {
         self.hops.iter().map(hop_of)
     }
+
+    /// The hops from one domain to another, by one pass over all records.
+    pub fn hops_between(&self, from: usize, to: usize) -> impl Iterator<Item = Hop> + 'a {
+        let pair = ((from as u32) << 16 | to as u32).to_be_bytes();
+        let of_pair = self.hops.iter().filter(move |record| record[..4] == pair);
+        of_pair.map(hop_of)
+    }
 }
 
 pub fn domain_of(record: &Record) -> Domain<'_> {

@@ -6,7 +6,7 @@ use crate::floats::{in_range, Exact};
 use crate::outcome::NotDone;
 use crate::profile::{Hop, Profile};
 use crate::sequence::{read_meaning, Stop};
-use crate::subobject::{read_form, List};
+use crate::subobject::{read_form, List, Subobject};
 
 const MAX_LIST: usize = 1024;
 
@@ -30,7 +30,12 @@ pub struct Question<'a> {
     pub profile: Profile<'a>,
     /// The domains D0 to Dk with their entry constraints; never empty.
     pub stops: Vec<Stop>,
+    /// 1 with every exclusion in force, 2 with those of X clear alone.
+    pub round: u32,
+    /// What is excluded in that round.
     pub exclusion: Exclusion,
+    /// The subobjects that the exclusion comes from.
+    pub(crate) exclude: Vec<Subobject<'a>>,
     pub source: u32,
     pub destination: u32,
     pub bandwidth: Exact,
@@ -52,7 +57,9 @@ impl<'a> Question<'a> {
         Ok(Question {
             profile,
             stops,
+            round: 1,
             exclusion: Exclusion::new(&profile, &exclude),
+            exclude,
             source: request.source,
             destination: request.destination,
             bandwidth: Exact::of_float(request.bandwidth_bits),

@@ -21,8 +21,8 @@ pub enum Call {
 #[derive(Clone, Copy, Debug, PartialEq, Eq)]
 pub struct Outcome {
     pub number: u32,
-    /// Place, total, the total's float bits.
-    pub numbers: [u32; 3],
+    /// Place, total, the total's float bits, round.
+    pub numbers: [u32; 4],
 }
 
 /// Runs the calls, each with its own buffer; a next is given a copy of the
@@ -32,7 +32,7 @@ pub fn series(request: &Request, calls: &[Call], buffers: &mut [Vec<u32>]) -> Ve
     let mut last_written: Vec<u32> = Vec::new();
     let mut outcomes = Vec::new();
     for (call, buffer) in calls.iter().zip(buffers) {
-        let mut numbers = [0; 3];
+        let mut numbers = [0; 4];
         let number = match call {
             Call::First => first(request, buffer, &mut numbers),
             Call::Next => next(request, &last_written, buffer, &mut numbers),
@@ -62,8 +62,8 @@ fn path_length(request: &Request) -> usize {
     numbers[1] as usize + 1
 }
 
-/// The same series by the book: it has the listing and a position, and looks
-/// at nothing of a call but its kind and buffer.
+/// The same series by the book: it has the listing of the round that applies
+/// and a position, and looks at nothing of a call but its kind and buffer.
 pub fn reference_series(
     request: &Request,
     calls: &[Call],
@@ -77,7 +77,7 @@ pub fn reference_series(
             // A refused request is refused by every call.
             Err(refusal) => Err(*refusal),
         };
-        let mut numbers = [0; 3];
+        let mut numbers = [0; 4];
         let number = settle(result, &mut numbers);
         outcomes.push(Outcome { number, numbers });
     }
@@ -109,6 +109,7 @@ impl Listing {
 struct Book {
     listing: Listing,
     total: Option<u32>,
+    round: u32,
     length: usize,
     /// How many paths have been handed out since the last first, and with it
     /// the position of the next one; 0 before any.
@@ -118,23 +119,24 @@ struct Book {
 impl Book {
     fn open(request: &Request) -> Result<Book, NotDone> {
         let plain = Plain::new(request)?;
-        let (listing, total) = if plain.walk_count() <= LISTED_WALKS {
-            let (paths, total) = plain.listing();
-            (Listing::Whole(paths), total)
+        let (listing, total, round) = if plain.walk_count() <= LISTED_WALKS {
+            let listed = plain.listing();
+            (Listing::Whole(listed.paths), listed.total, listed.round)
         } else {
-            let paths = ShortestPaths::new(&Question::accept(request)?);
-            let total = paths.total();
-            (Listing::Counted(Box::new(paths)), total)
+            let paths = ShortestPaths::new(Question::accept(request)?);
+            let (total, round) = (paths.total(), paths.round());
+            (Listing::Counted(Box::new(paths)), total, round)
         };
         Ok(Book {
             listing,
             total,
+            round,
             length: plain.path_length(),
             position: 0,
         })
     }
 
-    fn answer(&mut self, call: Call, buffer: &mut [u32]) -> Result<[u32; 3], NotDone> {
+    fn answer(&mut self, call: Call, buffer: &mut [u32]) -> Result<[u32; 4], NotDone> {
         if call == Call::Next && self.position == 0 {
             return NotDone::at(33, 0);
         }
@@ -151,7 +153,7 @@ impl Book {
         self.hand_out(position, buffer)
     }
 
-    fn hand_out(&mut self, position: u128, buffer: &mut [u32]) -> Result<[u32; 3], NotDone> {
+    fn hand_out(&mut self, position: u128, buffer: &mut [u32]) -> Result<[u32; 4], NotDone> {
         let path = self
             .listing
             .at(position)
@@ -159,6 +161,6 @@ impl Book {
         let total = self.total.expect("a listed path has a total");
         buffer[..path.len()].copy_from_slice(&path);
         self.position = position + 1;
-        Ok([0, total, bits_of_whole(total)])
+        Ok([0, total, bits_of_whole(total), self.round])
     }
 }

@@ -29,6 +29,9 @@ pub enum Body<'a> {
 #[derive(Clone, Copy, Debug, PartialEq, Eq)]
 pub struct Subobject<'a> {
     pub offset: usize,
+    /// X is set: the exclusion is desired, not demanded. Never so in an include
+    /// list, where the same bit is L.
+    pub desired: bool,
     pub body: Body<'a>,
 }
 
@@ -65,7 +68,11 @@ impl<'a> Walk<'a> {
         match read {
             Ok((length, body)) => {
                 self.offset += length;
-                Ok(Some(Subobject { offset, body }))
+                Ok(Some(Subobject {
+                    offset,
+                    desired: top_bit(rest),
+                    body,
+                }))
             }
             Err(number) => NotDone::at(number, offset),
         }
@@ -83,7 +90,7 @@ fn measure(rest: &[u8], list: List) -> Result<&[u8], u32> {
     if !supported(kind) {
         return Err(24);
     }
-    if list == List::Include && rest[0] & 0x80 != 0 {
+    if list == List::Include && top_bit(rest) {
         return Err(27);
     }
     if kind == IS_IS_AREA && !(1..=13).contains(&rest[2]) {
@@ -94,6 +101,11 @@ fn measure(rest: &[u8], list: List) -> Result<&[u8], u32> {
         return Err(25);
     }
     rest.get(..length).ok_or(23)
+}
+
+/// The bit before the type: L in an include list, X in an exclude list.
+fn top_bit(subobject: &[u8]) -> bool {
+    subobject[0] & 0x80 != 0
 }
 
 fn supported(kind: u8) -> bool {

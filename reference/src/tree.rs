@@ -1,5 +1,6 @@
 //! The backward tree of RFC 5441: for every entry node, the least cost from it
-//! to the destination. Worked out from the last domain to the first.
+//! to the destination. Worked out from the last domain to the first, in the
+//! round that the question is in.
 
 use crate::profile::Hop;
 use crate::request::Question;
@@ -44,9 +45,14 @@ impl Tree {
         self.levels.iter().map(Vec::len).sum()
     }
 
-    /// Hops examined (document 01's "tally").
+    /// Hops examined (document 01's "tally"), in this round alone.
     pub fn hops_examined(&self) -> usize {
         self.steps.iter().map(Vec::len).sum()
+    }
+
+    /// The least total of a path, whatever the bound.
+    pub fn total(&self) -> Option<u32> {
+        self.levels[0][0].least
     }
 
     /// The least cost of a suffix from `address` in domain `i`.

@@ -69,7 +69,7 @@ fn tree_keeps_the_rest() {
     for seed in 0..CASES {
         let case = generate::request_case(seed);
         let mut after = case.clone();
-        let mut numbers = [9; 3];
+        let mut numbers = [9; 4];
         let number = reference::tree(
             &case.request(),
             &mut after.level,
@@ -91,10 +91,10 @@ fn first_and_next_keep_the_rest() {
     for seed in 0..CASES {
         let case = generate::next_case(seed);
         let request = case.request.request();
-        let (mut path, mut numbers) = (case.request.path.clone(), [9; 3]);
+        let (mut path, mut numbers) = (case.request.path.clone(), [9; 4]);
         let number = reference::first(&request, &mut path, &mut numbers);
         check_path(&case.request.path, &path, number, numbers, None, seed);
-        let (mut path, mut numbers) = (case.path.clone(), [9; 3]);
+        let (mut path, mut numbers) = (case.path.clone(), [9; 4]);
         let number = reference::next(&request, &case.given, &mut path, &mut numbers);
         check_path(&case.path, &path, number, numbers, Some(&case.given), seed);
     }
@@ -104,7 +104,7 @@ fn check_path(
     before: &[u32],
     after: &[u32],
     number: u32,
-    numbers: [u32; 3],
+    numbers: [u32; 4],
     given: Option<&Vec<u32>>,
     seed: u64,
 ) {

@@ -64,7 +64,7 @@ fn tree_counts() -> Counts {
             &mut address,
             &mut reachable,
             &mut cost,
-            &mut [0; 3],
+            &mut [0; 4],
         );
         *counts.entry(number).or_default() += 1;
     }
@@ -75,7 +75,7 @@ fn first_counts() -> Counts {
     let mut counts = Counts::new();
     for seed in 0..CASES {
         let case = generate::request_case(seed);
-        let number = reference::first(&case.request(), &mut case.path.clone(), &mut [0; 3]);
+        let number = reference::first(&case.request(), &mut case.path.clone(), &mut [0; 4]);
         *counts.entry(number).or_default() += 1;
     }
     counts
@@ -86,7 +86,7 @@ fn next_counts() -> Counts {
     for seed in 0..CASES {
         let case = generate::next_case(seed);
         let request = case.request.request();
-        let number = reference::next(&request, &case.given, &mut case.path.clone(), &mut [0; 3]);
+        let number = reference::next(&request, &case.given, &mut case.path.clone(), &mut [0; 4]);
         *counts.entry(number).or_default() += 1;
     }
     counts
@@ -150,7 +150,7 @@ fn both_places_of_21_and_22_come_up() {
     let mut seen: BTreeMap<(u32, u32), usize> = BTreeMap::new();
     for seed in 0..CASES {
         let case = generate::request_case(seed);
-        let mut numbers = [0; 3];
+        let mut numbers = [0; 4];
         let number = reference::first(&case.request(), &mut case.path.clone(), &mut numbers);
         *seen.entry((number, numbers[0])).or_default() += 1;
     }

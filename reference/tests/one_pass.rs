@@ -3,11 +3,11 @@
 use reference::generate::{self, RequestCase};
 use reference::{one_pass_tree, tree, Request};
 
-type Call = fn(&Request, &mut [u32], &mut [u32], &mut [u8], &mut [u32], &mut [u32; 3]) -> u32;
+type Call = fn(&Request, &mut [u32], &mut [u32], &mut [u8], &mut [u32], &mut [u32; 4]) -> u32;
 
 /// The number, and the case with the buffers as the call leaves them.
-fn left(case: &RequestCase, call: Call) -> (u32, [u32; 3], RequestCase) {
-    let (mut left, mut numbers) = (case.clone(), [7; 3]);
+fn left(case: &RequestCase, call: Call) -> (u32, [u32; 4], RequestCase) {
+    let (mut left, mut numbers) = (case.clone(), [7; 4]);
     let number = call(
         &case.request(),
         &mut left.level,
@@ -22,9 +22,10 @@ fn left(case: &RequestCase, call: Call) -> (u32, [u32; 3], RequestCase) {
 #[test]
 fn both_trees_are_the_same() {
     let generated = (0..12_000).map(generate::request_case);
+    let decided = (0..8_000).map(|seed| generate::round_case(seed).request);
     let large = (0..20).map(generate::largest_request);
-    let mut built = 0;
-    for (index, case) in generated.chain(large).enumerate() {
+    let mut rounds = [0; 3];
+    for (index, case) in generated.chain(decided).chain(large).enumerate() {
         let (number, numbers, ours) = left(&case, one_pass_tree);
         let (same, again, theirs) = left(&case, tree);
         assert_eq!((number, numbers), (same, again), "case {index}");
@@ -33,7 +34,8 @@ fn both_trees_are_the_same() {
             (theirs.level, theirs.address, theirs.reachable, theirs.cost),
             "case {index}"
         );
-        built += usize::from(number == 0);
+        rounds[numbers[3] as usize] += 1;
     }
-    assert!(built > 5_000, "{built} trees");
+    println!("{rounds:?} refused, in round 1, in round 2");
+    assert!(rounds[1] > 5_000 && rounds[2] > 2_000, "{rounds:?}");
 }

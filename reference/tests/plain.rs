@@ -19,7 +19,7 @@ fn tree_is_the_least_over_all_suffixes() {
     for seed in 0..3000 {
         let case = generate::small_request_case(seed);
         let Some(plain) = plain(&case) else { continue };
-        let (entries, tally) = plain.tree();
+        let (entries, tally, round) = plain.tree();
         let expected: Vec<_> = entries
             .iter()
             .map(|e| {
@@ -33,7 +33,7 @@ fn tree_is_the_least_over_all_suffixes() {
             .collect();
         assert_eq!(
             common::tree(&case.request()),
-            (expected, tally),
+            (expected, tally, round),
             "seed {seed}"
         );
         compared += 1;
@@ -51,10 +51,11 @@ fn first_and_next_go_through_the_listing() {
     for seed in 0..3000 {
         let case = generate::small_request_case(seed);
         let Some(plain) = plain(&case) else { continue };
-        let (paths, total) = plain.listing();
+        let listed = plain.listing();
+        let paths = listed.paths;
         let expected: Vec<_> = paths
             .iter()
-            .map(|path| (path.clone(), total.unwrap_or(0)))
+            .map(|path| (path.clone(), listed.total.unwrap_or(0), listed.round))
             .collect();
         let found = common::listing(&case.request(), plain.path_length());
         assert_eq!(found, expected, "seed {seed}");
@@ -76,7 +77,7 @@ fn next_is_the_least_path_greater_than_any_list() {
         let Some(plain) = plain(&case.request) else {
             continue;
         };
-        let (paths, total) = plain.listing();
+        let listed = plain.listing();
         let length = plain.path_length();
         let (number, numbers, path) =
             common::next(&case.request.request(), &case.given, length + 1);
@@ -85,15 +86,16 @@ fn next_is_the_least_path_greater_than_any_list() {
             refused += 1;
             continue;
         }
-        match paths.iter().find(|path| **path > case.given) {
+        match listed.paths.iter().find(|path| **path > case.given) {
             Some(least) => {
-                let total = total.unwrap();
-                assert_eq!((number, numbers), (0, [0, total, (total as f32).to_bits()]));
+                let total = listed.total.unwrap();
+                let expected = [0, total, (total as f32).to_bits(), listed.round];
+                assert_eq!((number, numbers), (0, expected), "seed {seed}");
                 assert_eq!((&path[..length], path[length]), (&least[..], common::OLD));
                 found += 1;
             }
             None => {
-                assert_eq!((number, numbers), (2, [0; 3]), "seed {seed}");
+                assert_eq!((number, numbers), (2, [0; 4]), "seed {seed}");
                 assert_eq!(path, vec![common::OLD; length + 1]);
                 ended += 1;
             }
@@ -110,9 +112,9 @@ fn position_in_the_listing_counts_the_paths() {
     for seed in 0..1000 {
         let case = generate::small_request_case(seed);
         let Some(plain) = plain(&case) else { continue };
-        let (paths, _) = plain.listing();
+        let paths = plain.listing().paths;
         let question = reference::Question::accept(&case.request()).unwrap();
-        let counted = reference::ShortestPaths::new(&question);
+        let counted = reference::ShortestPaths::new(question);
         assert_eq!(counted.count(), paths.len() as u128, "seed {seed}");
         for (position, path) in paths.iter().enumerate() {
             assert_eq!(

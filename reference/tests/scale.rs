@@ -17,8 +17,8 @@ fn the_largest_profile_is_answered_at_once() {
             16
         );
         let start = Instant::now();
-        let (entries, tally) = common::tree(&case.request());
-        assert_eq!((entries.len(), tally), (1 + 15 * 16, 3000));
+        let (entries, tally, round) = common::tree(&case.request());
+        assert_eq!((entries.len(), tally, round), (1 + 15 * 16, 3000, 1));
         let (number, numbers, path) = common::first(&case.request(), 17);
         assert_eq!((number, numbers[1]), (0, entries[0].3));
         let (number, ..) = common::next(&case.request(), &path, 17);
@@ -68,7 +68,7 @@ fn the_most_equal_paths_are_counted() {
     let case = generate::equal_paths_request();
     assert_eq!(case.profile.len(), 12 + 20 * (16 + 3000));
     let expected: u128 = EQUAL_PATHS_WIDTHS.iter().map(|&n| n as u128).product();
-    let paths = ShortestPaths::new(&Question::accept(&case.request()).unwrap());
+    let paths = ShortestPaths::new(Question::accept(&case.request()).unwrap());
     assert_eq!(paths.count(), expected);
     assert!(expected > 1 << 58);
     // Every path is listed, so each is at the position its digits spell.
@@ -82,7 +82,7 @@ fn the_most_equal_paths_are_counted() {
 #[test]
 fn next_among_the_most_equal_paths() {
     let case = generate::equal_paths_request();
-    let paths = ShortestPaths::new(&Question::accept(&case.request()).unwrap());
+    let paths = ShortestPaths::new(Question::accept(&case.request()).unwrap());
     let count = paths.count();
     let mut random = generate::Random::new(1, 99);
     for _ in 0..100 {

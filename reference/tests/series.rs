@@ -63,9 +63,9 @@ fn a_series_on_profile_w() {
     assert_eq!(buffers[9], [S, Q, T, Z]);
     for outcome in &outcomes {
         let expected = if outcome.number == 0 {
-            [0, 14, 0x4160_0000]
+            [0, 14, 0x4160_0000, 1]
         } else {
-            [0; 3]
+            [0; 4]
         };
         assert_eq!(outcome.numbers, expected);
     }

@@ -3,8 +3,9 @@
 mod common;
 use common::*;
 
-fn totals(paths: &[[u32; 4]], total: u32) -> Vec<(Vec<u32>, u32)> {
-    paths.iter().map(|path| (path.to_vec(), total)).collect()
+/// Paths of one total, found in the first round.
+fn totals(paths: &[[u32; 4]], total: u32) -> Vec<(Vec<u32>, u32, u32)> {
+    paths.iter().map(|path| (path.to_vec(), total, 1)).collect()
 }
 
 const SPUZ: [u32; 4] = [S, P, U, Z];
@@ -19,7 +20,7 @@ fn profile_w_is_232_bytes_with_the_header_given() {
     assert_eq!(check(&w), (0, 0));
 }
 
-fn tree_of_w() -> Vec<(u32, u32, u8, u32)> {
+fn tree_of_w() -> Vec<Entry> {
     vec![
         (0, S, 1, 14),
         (1, P, 1, 4),
@@ -32,7 +33,7 @@ fn tree_of_w() -> Vec<(u32, u32, u8, u32)> {
 #[test]
 fn tree_of_the_short_form() {
     let w = profile_w();
-    assert_eq!(tree(&ask(&w, &SHORT)), (tree_of_w(), 8));
+    assert_eq!(tree(&ask(&w, &SHORT)), (tree_of_w(), 8, 1));
 }
 
 #[test]
@@ -44,30 +45,25 @@ fn the_long_form_means_the_same() {
         read(&w, 0, &long),
         Ok(vec![(0, None), (1, None), (2, None)])
     );
-    assert_eq!(tree(&ask(&w, &long)), (tree_of_w(), 8));
+    assert_eq!(tree(&ask(&w, &long)), (tree_of_w(), 8, 1));
 }
 
 #[test]
 fn three_paths_of_14_then_2() {
     let w = profile_w();
     let request = ask(&w, &SHORT);
-    assert_eq!(first(&request, 4), (0, [0, 14, 0x4160_0000], SPUZ.to_vec()));
-    assert_eq!(
-        next(&request, &SPUZ, 4),
-        (0, [0, 14, 0x4160_0000], SQTZ.to_vec())
-    );
-    assert_eq!(
-        next(&request, &SQTZ, 4),
-        (0, [0, 14, 0x4160_0000], SQUZ.to_vec())
-    );
-    assert_eq!(next(&request, &SQUZ, 4), (2, [0, 0, 0], vec![OLD; 4]));
+    let numbers = [0, 14, 0x4160_0000, 1];
+    assert_eq!(first(&request, 4), (0, numbers, SPUZ.to_vec()));
+    assert_eq!(next(&request, &SPUZ, 4), (0, numbers, SQTZ.to_vec()));
+    assert_eq!(next(&request, &SQTZ, 4), (0, numbers, SQUZ.to_vec()));
+    assert_eq!(next(&request, &SQUZ, 4), (2, [0; 4], vec![OLD; 4]));
 }
 
 #[test]
 fn next_after_a_path_that_is_not_listed() {
     let w = profile_w();
     let found = next(&ask(&w, &SHORT), &[S, P, T, Z], 4);
-    assert_eq!(found, (0, [0, 14, 0x4160_0000], SPUZ.to_vec()));
+    assert_eq!(found, (0, [0, 14, 0x4160_0000, 1], SPUZ.to_vec()));
 }
 
 #[test]
@@ -85,9 +81,9 @@ fn a_bound_of_13_admits_none() {
     let mut request = ask(&w, &SHORT);
     request.bound_counts = true;
     request.bound_bits = 13.0f32.to_bits();
-    assert_eq!(first(&request, 4), (1, [0, 0, 0], vec![OLD; 4]));
-    assert_eq!(next(&request, &[0; 4], 4), (2, [0, 0, 0], vec![OLD; 4]));
-    assert_eq!(tree(&request), (tree_of_w(), 8), "the tree has no bound");
+    assert_eq!(first(&request, 4), (1, [0; 4], vec![OLD; 4]));
+    assert_eq!(next(&request, &[0; 4], 4), (2, [0; 4], vec![OLD; 4]));
+    assert_eq!(tree(&request), (tree_of_w(), 8, 1), "the tree has no bound");
 }
 
 #[test]
@@ -123,8 +119,8 @@ fn an_entry_constraint_on_u() {
 fn an_empty_include_list() {
     let w = profile_w();
     let request = ask(&w, &[]);
-    assert_eq!(first(&request, 2), (1, [0, 0, 0], vec![OLD; 2]));
-    assert_eq!(tree(&request), (vec![(0, S, 0, 0)], 0));
+    assert_eq!(first(&request, 2), (1, [0; 4], vec![OLD; 2]));
+    assert_eq!(tree(&request), (vec![(0, S, 0, 0)], 0, 1));
 }
 
 #[test]
@@ -132,7 +128,8 @@ fn a_domain_that_comes_back() {
     let w = profile_w();
     let include = [5, 8, 0, 0, 0, 0, 0xFB, 0xF1, 5, 8, 0, 0, 0, 0, 0xFB, 0xF0];
     assert_eq!(read(&w, 0, &include), Err((30, 8)));
-    assert_eq!(first(&ask(&w, &include), 4), (30, [8, 0, 0], vec![OLD; 4]));
+    let refused = (30, [8, 0, 0, 0], vec![OLD; 4]);
+    assert_eq!(first(&ask(&w, &include), 4), refused);
 }
 
 #[test]
@@ -211,13 +208,13 @@ fn the_cheapest_entry_is_not_taken_first() {
     // A search that takes Q, the cheapest entry of 64497, never sees SPUZ.
     let w = profile_w();
     let paths = listing(&ask(&w, &SHORT), 4);
-    assert!(paths.contains(&(SPUZ.to_vec(), 14)));
+    assert!(paths.contains(&(SPUZ.to_vec(), 14, 1)));
 }
 
 #[test]
 fn cost_0_is_a_link() {
     let profile = file(0, &[domain(64496, 0, &[])], &[hop(0, 0, S, Z, 0, B100)]);
     let request = ask(&profile, &[]);
-    assert_eq!(first(&request, 2), (0, [0, 0, 0], vec![S, Z]));
-    assert_eq!(tree(&request), (vec![(0, S, 1, 0)], 1));
+    assert_eq!(first(&request, 2), (0, [0, 0, 0, 1], vec![S, Z]));
+    assert_eq!(tree(&request), (vec![(0, S, 1, 0)], 1, 1));
 }

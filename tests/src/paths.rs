@@ -1,5 +1,6 @@
 //! first and next: the C calls, and one of them made by both programs.
 
+use crate::by_hand::desired::any_desired;
 use crate::compare::{compare, Answer, Case, Lent};
 use crate::request::{call, declare};
 use reference::{Question, Request};
@@ -15,10 +16,11 @@ declare!(yq_next(
     numbers: *mut u32,
 ));
 
-/// The first shortest path. `numbers`: place, total, the total's float bits.
-pub fn first(request: &Request, path: &mut [u32], numbers: &mut [u32; 3]) -> u32 {
+/// The first shortest path. `numbers`: place, total, the total's float bits,
+/// round.
+pub fn first(request: &Request, path: &mut [u32], numbers: &mut [u32; 4]) -> u32 {
     // SAFETY: the call reads the request's lists and writes no further than
-    // the buffer and the array's three numbers.
+    // the buffer and the array's four numbers.
     unsafe {
         call!(yq_first(
             request,
@@ -30,9 +32,9 @@ pub fn first(request: &Request, path: &mut [u32], numbers: &mut [u32; 3]) -> u32
 }
 
 /// The shortest path after a given list. `numbers` as for `first`.
-pub fn next(request: &Request, given: &[u32], path: &mut [u32], numbers: &mut [u32; 3]) -> u32 {
+pub fn next(request: &Request, given: &[u32], path: &mut [u32], numbers: &mut [u32; 4]) -> u32 {
     // SAFETY: the call reads the request's lists and the given one and writes
-    // no further than the buffer and the array's three numbers.
+    // no further than the buffer and the array's four numbers.
     unsafe {
         call!(yq_next(
             request,
@@ -48,8 +50,8 @@ pub fn next(request: &Request, given: &[u32], path: &mut [u32], numbers: &mut [u
 /// The most addresses a path can have.
 pub const LONGEST: usize = 17;
 
-/// A path's addresses and its total.
-pub type Path = (Vec<u32>, u32);
+/// A path's addresses, its total, and the round that it is found in.
+pub type Path = (Vec<u32>, u32, u32);
 
 /// The path, or number and place.
 pub type Found = Result<Path, (u32, u32)>;
@@ -68,13 +70,13 @@ pub struct PathCase<'a> {
 
 /// How a program is called for either.
 pub struct Calls {
-    first: fn(&Request, &mut [u32], &mut [u32; 3]) -> u32,
-    next: fn(&Request, &[u32], &mut [u32], &mut [u32; 3]) -> u32,
+    first: fn(&Request, &mut [u32], &mut [u32; 4]) -> u32,
+    next: fn(&Request, &[u32], &mut [u32], &mut [u32; 4]) -> u32,
 }
 
 impl Case for PathCase<'_> {
     type Call = Calls;
-    type Answer = Answer<3, Lent<u32>>;
+    type Answer = Answer<4, Lent<u32>>;
 
     const LIBRARY: Calls = Calls { first, next };
     const REFERENCE: Calls = Calls {
@@ -96,13 +98,14 @@ impl PathCase<'_> {
     #[track_caller]
     pub fn find(&self, which: impl Display) -> Found {
         let answer = compare(self, &which);
-        let [place, total, float_bits] = answer.numbers;
+        let [place, total, float_bits, round] = answer.numbers;
         let found = answer.number == 0;
         let length = if found { path_length(&self.request) } else { 0 };
         let kept = answer.buffers.kept_past(length, &self.path);
         assert!(kept, "{which}: wrote more than the result: {answer:?}");
         if !found {
-            assert_eq!((total, float_bits), (0, 0), "{which}: {answer:?}");
+            let numbers = (total, float_bits, round);
+            assert_eq!(numbers, (0, 0, 0), "{which}: {answer:?}");
             return Err(answer.verdict());
         }
         let path = answer.buffers.contents()[..length].to_vec();
@@ -110,7 +113,9 @@ impl PathCase<'_> {
         assert_eq!(place, 0, "{which}: {answer:?}");
         assert_eq!(ends, (self.request.source, self.request.destination));
         assert_eq!(f32::from_bits(float_bits), total as f32, "{which}");
-        Ok((path, total))
+        let may_be = round == 1 || round == 2 && any_desired(self.request.exclude);
+        assert!(may_be, "{which}: {answer:?}");
+        Ok((path, total, round))
     }
 }
 
@@ -142,20 +147,20 @@ pub fn find_next(request: &Request, given: &[u32], which: impl Display) -> Found
 }
 
 /// What the library alone gives from first on, next after next, until it gives
-/// no path any more: the paths with their totals, and that answer. At most
+/// no path any more: the paths with total and round, and that answer. At most
 /// `most` paths.
-pub fn listing(request: &Request, most: usize) -> (Vec<Path>, (u32, [u32; 3])) {
+pub fn listing(request: &Request, most: usize) -> (Vec<Path>, (u32, [u32; 4])) {
     let length = path_length(request);
     let mut paths: Vec<Path> = Vec::new();
     loop {
-        let (mut path, mut numbers) = (vec![0xAAAA_AAAA; length], [7; 3]);
+        let (mut path, mut numbers) = (vec![0xAAAA_AAAA; length], [7; 4]);
         let number = match paths.last() {
             None => first(request, &mut path, &mut numbers),
-            Some((given, _)) => next(request, given, &mut path, &mut numbers),
+            Some((given, ..)) => next(request, given, &mut path, &mut numbers),
         };
         if number != 0 || paths.len() == most {
             return (paths, (number, numbers));
         }
-        paths.push((path, numbers[1]));
+        paths.push((path, numbers[1], numbers[3]));
     }
 }

@@ -18,8 +18,8 @@ declare!(yq_series(
 ));
 
 /// Runs a series; `kinds`: 0 for first, 1 for next. The calls' buffers stand
-/// back to back in `buffers`. `numbers`, four for each call: answer, place,
-/// total, the total's float bits.
+/// back to back in `buffers`. `numbers`, five for each call: answer, place,
+/// total, the total's float bits, round.
 pub fn series(
     request: &Request,
     kinds: &[u8],
@@ -47,6 +47,9 @@ pub fn series(
 /// The number for arguments that don't fit together.
 pub const MALFORMED: u32 = 100;
 
+/// How many numbers each call of a series stores.
+pub const NUMBERS: usize = 5;
+
 pub fn kinds_of(calls: &[Call]) -> Vec<u8> {
     let kind = |call: &Call| u8::from(*call == Call::Next);
     calls.iter().map(kind).collect()
@@ -72,7 +75,7 @@ impl SeriesCase<'_> {
             .map(|buffer| buffer.len() as u32)
             .collect();
         let mut lent = Lent::new(&self.buffers.concat());
-        let mut numbers = Lent::new(&vec![0xAAAA_AAAA; 4 * self.calls.len() + spare]);
+        let mut numbers = Lent::new(&vec![0xAAAA_AAAA; NUMBERS * self.calls.len() + spare]);
         let before = (lent.clone(), numbers.clone());
         let kinds = kinds_of(self.calls);
         let done = series(
@@ -83,7 +86,7 @@ impl SeriesCase<'_> {
             numbers.buffer(),
         );
         assert_eq!(done, 0, "{which}");
-        let (written, stored) = (lent.contents().len(), 4 * self.calls.len());
+        let (written, stored) = (lent.contents().len(), NUMBERS * self.calls.len());
         let kept = lent.kept_past(written, &before.0) && numbers.kept_past(stored, &before.1);
         assert!(kept, "{which}: wrote outside");
         let mut rest = lent.contents();
@@ -128,10 +131,10 @@ impl SeriesCase<'_> {
 }
 
 fn outcomes(numbers: &[u32]) -> Vec<Outcome> {
-    let (fours, _) = numbers.as_chunks();
-    let outcome = |&[number, place, total, float_bits]: &[u32; 4]| Outcome {
+    let (each, _) = numbers.as_chunks();
+    let outcome = |&[number, place, total, float_bits, round]: &[u32; NUMBERS]| Outcome {
         number,
-        numbers: [place, total, float_bits],
+        numbers: [place, total, float_bits, round],
     };
-    fours.iter().map(outcome).collect()
+    each.iter().map(outcome).collect()
 }

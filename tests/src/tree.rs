@@ -1,5 +1,6 @@
 //! The tree: the C call, and one tree asked of both programs.
 
+use crate::by_hand::desired::any_desired;
 use crate::compare::{compare, Answer, Case, Lent};
 use crate::request::{call, declare};
 use reference::Request;
@@ -17,17 +18,18 @@ declare!(yq_tree(
     numbers: *mut u32,
 ));
 
-/// Fills in the tree. `numbers`: place, how many entries, hops examined.
+/// Fills in the tree of the round that applies. `numbers`: place, how many
+/// entries, hops examined, round.
 pub fn tree(
     request: &Request,
     level: &mut [u32],
     address: &mut [u32],
     reachable: &mut [u8],
     cost: &mut [u32],
-    numbers: &mut [u32; 3],
+    numbers: &mut [u32; 4],
 ) -> u32 {
     // SAFETY: the call reads the request's lists and writes no further than
-    // the four buffers and the array's three numbers.
+    // the four buffers and the array's four numbers.
     unsafe {
         call!(yq_tree(
             request,
@@ -67,6 +69,7 @@ pub type Entry = (u32, u32, Option<u32>);
 pub struct Tree {
     pub entries: Vec<Entry>,
     pub hops_examined: u32,
+    pub round: u32,
 }
 
 /// The tree, or number and place.
@@ -79,8 +82,8 @@ pub struct TreeCase<'a> {
 }
 
 impl Case for TreeCase<'_> {
-    type Call = fn(&Request, &mut [u32], &mut [u32], &mut [u8], &mut [u32], &mut [u32; 3]) -> u32;
-    type Answer = Answer<3, Buffers>;
+    type Call = fn(&Request, &mut [u32], &mut [u32], &mut [u8], &mut [u32], &mut [u32; 4]) -> u32;
+    type Answer = Answer<4, Buffers>;
 
     const LIBRARY: Self::Call = tree;
     const REFERENCE: Self::Call = reference::tree;
@@ -108,7 +111,7 @@ impl TreeCase<'_> {
     #[track_caller]
     pub fn build(&self, which: impl Display) -> Built {
         let answer = compare(self, &which);
-        let [place, count, hops_examined] = answer.numbers;
+        let [place, count, hops_examined, round] = answer.numbers;
         let count = count as usize;
         let (level, address, reachable, cost) = &answer.buffers;
         let kept = level.kept_past(count, &self.buffers.0)
@@ -117,7 +120,8 @@ impl TreeCase<'_> {
             && cost.kept_past(count, &self.buffers.3);
         assert!(kept, "{which}: wrote more than the result: {answer:?}");
         if answer.number != 0 {
-            assert_eq!((count, hops_examined), (0, 0), "{which}: {answer:?}");
+            let numbers = (count, hops_examined, round);
+            assert_eq!(numbers, (0, 0, 0), "{which}: {answer:?}");
             return Err(answer.verdict());
         }
         let entry = |i: usize| {
@@ -128,19 +132,21 @@ impl TreeCase<'_> {
             };
             (level.contents()[i], address.contents()[i], least)
         };
-        let entries: Vec<Entry> = (0..count).map(entry).collect();
-        let shape = place == 0 && self.shaped(&entries, hops_examined);
-        assert!(shape, "{which}: not the shape of a tree: {answer:?}");
-        Ok(Tree {
-            entries,
+        let tree = Tree {
+            entries: (0..count).map(entry).collect(),
             hops_examined,
-        })
+            round,
+        };
+        let shape = place == 0 && self.shaped(&tree);
+        assert!(shape, "{which}: not the shape of a tree: {answer:?}");
+        Ok(tree)
     }
 
     /// The source, then the levels in order and ascending in each, at most 16
-    /// to a level; no more hops examined than the profile has.
-    fn shaped(&self, entries: &[Entry], hops_examined: u32) -> bool {
-        let profile = self.request.profile;
+    /// to a level; in each round no more hops examined than the profile has,
+    /// and a second round only where an exclusion is desired.
+    fn shaped(&self, tree: &Tree) -> bool {
+        let (entries, profile) = (&tree.entries, self.request.profile);
         let hops = u32::from(profile[8]) << 8 | u32::from(profile[9]);
         let ascending = entries
             .windows(2)
@@ -155,7 +161,11 @@ impl TreeCase<'_> {
             && ascending
             && later
             && wide
-            && hops_examined <= hops
+            && tree.hops_examined <= tree.round * hops
+            && (tree.round == 1
+                || tree.round == 2
+                    && tree.hops_examined.is_multiple_of(2)
+                    && any_desired(self.request.exclude))
     }
 }
 

@@ -1,6 +1,6 @@
-//! What an exclude list takes away, through tree: domains by AS and by area,
-//! nodes by prefixes of every length, one by one and together, each with the
-//! tree that the rule gives.
+//! What an exclude list takes away, through tree: domains by AS and by area, and
+//! nodes, one by one and together, demanded and desired, each with the tree that
+//! the rule gives.
 
 use reference::generate::Random;
 use reference::Request;
@@ -8,7 +8,7 @@ use std::collections::BTreeSet;
 use tests::by_hand::{ask, domain, file, hop, B1000};
 use tests::compare::{seeds, Kinds};
 use tests::lists::{entry, excluded, is_is, long_as, marked, ospf, short_as};
-use tests::tree::{build, Built, Tree};
+use tests::tree::{build, Tree};
 
 // A row of eight domains with two entry nodes each.
 
@@ -90,7 +90,7 @@ impl Gone {
 }
 
 /// The row's tree without what is gone, the last domain first.
-fn expected(gone: &Gone) -> Built {
+fn tree_without(gone: &Gone) -> Tree {
     let mut after = vec![(DESTINATION, (!gone.takes(8, DESTINATION)).then_some(0))];
     let mut entries = Vec::new();
     for i in (0..8).rev() {
@@ -104,11 +104,12 @@ fn expected(gone: &Gone) -> Built {
         entries.splice(0..0, level);
         after = here;
     }
-    Ok(Tree {
+    Tree {
         entries,
         // 2 into the first domain's, 4 between two, 2 inside the last.
         hops_examined: 2 + 6 * 4 + 2,
-    })
+        round: 1,
+    }
 }
 
 /// A subobject, and the domains and nodes that it takes away.
@@ -164,56 +165,96 @@ fn pieces() -> Vec<Piece> {
     of_domains.into_iter().chain(of_nodes).collect()
 }
 
+/// Subobjects with their X bit, and nodes that domains are to be entered by.
+#[derive(Default)]
+struct Asked<'a> {
+    pieces: Vec<(&'a Piece, bool)>,
+    constraints: [Option<u32>; 8],
+}
+
+impl Asked<'_> {
+    fn exclude(&self) -> Vec<u8> {
+        let bytes = |&(piece, desired): &(&Piece, bool)| match desired {
+            true => marked(piece.bytes.clone()),
+            false => piece.bytes.clone(),
+        };
+        self.pieces.iter().flat_map(bytes).collect()
+    }
+
+    /// The tree without what all pieces take away; if its source is unreachable
+    /// and one has X set, the tree without what the others do, in round 2.
+    fn expected(&self) -> Tree {
+        let (mut all, mut demanded) = (Gone::default(), Gone::default());
+        for gone in [&mut all, &mut demanded] {
+            gone.constraints = self.constraints;
+        }
+        for &(piece, desired) in &self.pieces {
+            add(&mut all, piece);
+            if !desired {
+                add(&mut demanded, piece);
+            }
+        }
+        let first = tree_without(&all);
+        let any_desired = self.pieces.iter().any(|piece| piece.1);
+        if first.entries[0].2.is_some() || !any_desired {
+            return first;
+        }
+        Tree {
+            hops_examined: 2 * first.hops_examined,
+            round: 2,
+            ..tree_without(&demanded)
+        }
+    }
+}
+
 fn add(gone: &mut Gone, piece: &Piece) {
     gone.domains.extend(&piece.domains);
     gone.nodes.extend(&piece.nodes);
 }
 
-/// The row's tree is what is left, with these entry constraints.
+/// The row's tree is what is left.
 #[track_caller]
-fn check(profile: &[u8], exclude: &[u8], gone: &Gone) {
-    let named = |i: usize| [gone.constraints[i].map_or(Vec::new(), entry), name(ROW[i])].concat();
+fn check(profile: &[u8], asked: &Asked) -> Tree {
+    let constraint = |i: usize| asked.constraints[i].map_or(Vec::new(), entry);
+    let named = |i: usize| [constraint(i), name(ROW[i])].concat();
     let include: Vec<u8> = (1..8).flat_map(named).collect();
+    let exclude = asked.exclude();
     let request = Request {
         source: SOURCE,
         destination: DESTINATION,
-        exclude,
+        exclude: &exclude,
         ..ask(profile, &include)
     };
-    let built = build(
-        &request,
-        format_args!("{include:02X?} without {exclude:02X?}"),
-    );
-    assert_eq!(
-        built,
-        expected(gone),
-        "{include:02X?} without {exclude:02X?}"
-    );
+    let which = format!("{include:02X?} without {exclude:02X?}");
+    let built = build(&request, &which).expect("it is accepted");
+    assert_eq!(built, asked.expected(), "{which}");
+    built
 }
 
 #[test]
 fn one_exclusion_and_every_two() {
     let (profile, pieces) = (row(), pieces());
-    check(&profile, &[], &Gone::default());
-    let mut cases = 0;
+    let mut rounds = [0; 3];
+    let mut check = |pieces: &[(&Piece, bool)]| {
+        let asked = Asked {
+            pieces: pieces.to_vec(),
+            ..Asked::default()
+        };
+        rounds[check(&profile, &asked).round as usize] += 1;
+    };
+    check(&[]);
     for one in &pieces {
-        for other in &pieces {
-            let mut gone = Gone::default();
-            add(&mut gone, one);
-            check(&profile, &one.bytes, &gone);
-            check(&profile, &marked(one.bytes.clone()), &gone);
-            add(&mut gone, other);
-            for (x, y) in [(false, false), (true, false), (false, true), (true, true)] {
-                let bit = |set, piece: &Piece| match set {
-                    true => marked(piece.bytes.clone()),
-                    false => piece.bytes.clone(),
-                };
-                check(&profile, &[bit(x, one), bit(y, other)].concat(), &gone);
+        for x in [false, true] {
+            check(&[(one, x)]);
+            for other in &pieces {
+                check(&[(one, x), (other, false)]);
+                check(&[(one, x), (other, true)]);
             }
-            cases += 6;
         }
     }
-    println!("\ntree, one exclusion and every two: {cases} cases");
+    let [_, first, second] = rounds;
+    println!("\ntree, one exclusion and every two: {first} in round 1, {second} in round 2");
+    assert!(first > 1_000 && second > 1_000);
 }
 
 /// Several exclusions in any order, among as many that take nothing away as
@@ -224,162 +265,40 @@ fn exclusions_together() {
     let mut kinds = Kinds::default();
     for seed in seeds(6_000) {
         let random = &mut Random::new(seed, 108);
-        let mut gone = Gone::default();
+        let mut asked = Asked::default();
         for i in 1..8 {
             if random.chance(1, 10) {
                 let [first, second] = nodes(i);
-                gone.constraints[i] = Some(random.pick(&[first, second, first, second, 7]));
+                asked.constraints[i] = Some(random.pick(&[first, second, first, second, 7]));
             }
         }
-        let mut list: Vec<Vec<u8>> = Vec::new();
+        let nothing = [short_as(1), ospf(9), excluded(random.bits() >> 2, 32)].map(|bytes| Piece {
+            bytes,
+            domains: vec![],
+            nodes: vec![],
+        });
+        let desired = random.pick(&[0, 1, 3]);
         for _ in 0..random.below(4) {
             let piece = &pieces[random.below(pieces.len())];
-            add(&mut gone, piece);
-            list.push(piece.bytes.clone());
+            asked.pieces.push((piece, random.chance(desired, 3)));
         }
         let fill = random.pick(&[0, 0, 1, 8, 100]);
         for _ in 0..fill {
-            let nothing = [short_as(1), ospf(9), excluded(random.bits() >> 2, 32)];
-            list.push(nothing[random.below(3)].clone());
+            let piece = &nothing[random.below(3)];
+            asked.pieces.push((piece, random.chance(desired, 3)));
         }
-        for i in (1..list.len()).rev() {
-            list.swap(i, random.below(i + 1));
+        for i in (1..asked.pieces.len()).rev() {
+            asked.pieces.swap(i, random.below(i + 1));
         }
-        for piece in list.iter_mut().filter(|_| random.chance(1, 3)) {
-            *piece = marked(piece.clone());
-        }
-        let exclude = list.concat();
-        check(&profile, &exclude, &gone);
-        let entries = expected(&gone).expect("a tree").entries;
-        let reached = entries.iter().filter(|entry| entry.2.is_some()).count();
-        kinds.add(format!("{reached:>2} entries reachable"));
+        let tree = check(&profile, &asked);
+        let reached = tree.entries.iter().filter(|entry| entry.2.is_some());
+        kinds.add(reachable_kind(tree.round, reached.count()));
     }
-    let wanted: Vec<String> = [0, 2, 4, 7, 14, 15]
-        .map(|n| format!("{n:>2} entries reachable"))
-        .into();
-    kinds.cover("tree, exclusions together", &wanted);
+    let first = [0, 2, 4, 7, 14, 15].map(|reached| reachable_kind(1, reached));
+    let second = [0, 2, 4, 7, 14, 15].map(|reached| reachable_kind(2, reached));
+    kinds.cover("tree, exclusions together", &[first, second].concat());
 }
 
-// Nodes.
-
-/// Nodes that differ from the prefix in one bit each, as source, as destination
-/// and as entry node, for every length; the bits after it are anything.
-#[test]
-fn a_prefix_of_every_length() {
-    let mut cases = 0;
-    for base in [0u32, u32::MAX, 0x0A5A_C396, 0x8000_0001] {
-        let far = base ^ 0xE000_0000;
-        for bit in 0..=32 {
-            let node = if bit == 32 { base } else { base ^ 1 << bit };
-            // Whether a node lies in the prefix, bit by bit from the top.
-            let inside = |node: u32, length: u8| {
-                (0..length).all(|i| node >> (31 - i) & 1 == base >> (31 - i) & 1)
-            };
-            let hops = [hop(0, 1, far, node, 1, 0), hop(1, 1, node, far, 1, 0)];
-            let profile = file(1, &[1, 2].map(|as_number| domain(as_number, 0, &[])), &hops);
-            for length in 0..=32 {
-                for noise in [0, u32::MAX, 0x5555_5555] {
-                    let after = u32::MAX.checked_shr(length.into()).unwrap_or(0);
-                    let exclude = excluded(base ^ noise & after, length);
-                    let request = Request {
-                        source: far,
-                        destination: far,
-                        exclude: &exclude,
-                        bandwidth_bits: 0,
-                        ..ask(&profile, &[32, 4, 0, 2])
-                    };
-                    let (ends, gone) = (inside(far, length), inside(node, length));
-                    let reached = |cost| (!ends && !gone).then_some(cost);
-                    let entries = vec![(0, far, reached(2)), (1, node, reached(1))];
-                    let which = format!("{node:08X} in {base:08X}/{length}");
-                    let built = build(&request, &which);
-                    let hops_examined = 2;
-                    let expected = Ok(Tree {
-                        entries,
-                        hops_examined,
-                    });
-                    assert_eq!(built, expected, "{which}");
-                    cases += 1;
-                }
-            }
-        }
-    }
-    println!("\ntree, prefixes: {cases} cases");
-}
-
-// Domains.
-
-/// A live profile of these domains, with a hop from 7 to 8 inside each.
-fn with_hops(domains: &[Vec<u8>]) -> Vec<u8> {
-    let count = domains.len() as u16;
-    let hops: Vec<_> = (0..count).map(|i| hop(i, i, 7, 8, 1, 0)).collect();
-    file(1, domains, &hops)
-}
-
-/// Whether each domain's hop is left over by an exclude list.
-fn left_over(profile: &[u8], exclude: &[u8]) -> Vec<bool> {
-    (0..u16::from(profile[7]))
-        .map(|ingress| {
-            let request = Request {
-                ingress,
-                source: 7,
-                destination: 8,
-                exclude,
-                bandwidth_bits: 0,
-                ..ask(profile, &[])
-            };
-            let which = format!("{ingress} without {exclude:02X?}");
-            let tree = build(&request, which).expect("it is accepted");
-            tree.entries[0].2.is_some()
-        })
-        .collect()
-}
-
-/// Areas that differ in one byte, in length alone or in kind alone, in three AS:
-/// each area excluded, in either form of the X bit.
-#[test]
-fn an_area_of_every_kind_and_length_in_any_as() {
-    let mut areas: Vec<(u8, Vec<u8>)> = (1..=13).map(|n| (2, vec![0; n])).collect();
-    areas.extend([0, 1, 4].map(|area| (1, vec![0, 0, 0, area])));
-    areas.extend([1, 4].map(|area| (2, vec![0, 0, 0, area])));
-    areas.push((2, vec![0, 0, 0, 0, 0, 0, 0, 0, 0, 0, 0, 0, 1]));
-    let mut domains: Vec<(Vec<u8>, usize)> = Vec::new();
-    for as_number in [100, 101, 0x0001_0064] {
-        for (index, (kind, area)) in areas.iter().enumerate() {
-            domains.push((domain(as_number, *kind, area), index));
-        }
-    }
-    domains.push((domain(102, 0, &[]), usize::MAX));
-    domains.sort();
-    let records: Vec<Vec<u8>> = domains.iter().map(|(record, _)| record.clone()).collect();
-    let profile = with_hops(&records);
-    for (index, (kind, area)) in areas.iter().enumerate() {
-        let expected: Vec<bool> = domains.iter().map(|&(_, own)| own != index).collect();
-        let piece = match kind {
-            1 => [&[6, 8, 0xFF, 0xFF], &area[..]].concat(),
-            _ => is_is(area),
-        };
-        assert_eq!(left_over(&profile, &piece), expected, "{piece:02X?}");
-        assert_eq!(left_over(&profile, &marked(piece)), expected);
-    }
-}
-
-/// AS numbers that differ in one byte, or in length of their form alone.
-#[test]
-fn an_as_in_either_form() {
-    // The last two have low bytes that an AS of two bytes could have.
-    let numbers = [0, 1, 255, 256, 257, 23456, 65_535, 0x0001_0200, 0x0102_0001];
-    let profile = with_hops(&numbers.map(|as_number| domain(as_number, 0, &[])));
-    let others = [2, 0x0200, 0x0300, 0xFFFE, 0x5BA1, 0x0001_0000];
-    for as_number in numbers.into_iter().chain(others) {
-        let expected = numbers.map(|own| own != as_number);
-        let long = long_as(as_number);
-        assert_eq!(left_over(&profile, &long), expected, "{long:02X?}");
-        assert_eq!(left_over(&profile, &marked(long)), expected);
-        if let Ok(as_number) = u16::try_from(as_number) {
-            let short = short_as(as_number);
-            assert_eq!(left_over(&profile, &short), expected, "{short:02X?}");
-            assert_eq!(left_over(&profile, &marked(short)), expected);
-        }
-    }
+fn reachable_kind(round: u32, reached: usize) -> String {
+    format!("round {round}, {reached:>2} entries reachable")
 }

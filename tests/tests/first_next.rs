@@ -51,7 +51,7 @@ fn generated_nexts() {
         }
         .find(format_args!("next_case({seed})"));
         counts.add(verdict(&found));
-        if let Ok((path, _)) = &found {
+        if let Ok((path, ..)) = &found {
             let same = path.iter().zip(&case.given).take_while(|(a, b)| a == b);
             kinds.add(format!("{:>2} addresses as given", same.count()));
         }
@@ -110,16 +110,16 @@ const SQTZ: [u32; 4] = [S, Q, T, Z];
 const SQUZ: [u32; 4] = [S, Q, U, Z];
 
 fn of_14(path: [u32; 4]) -> Found {
-    Ok((path.to_vec(), 14))
+    Ok((path.to_vec(), 14, 1))
 }
 
 /// The listing is these paths of total 14; then 2, or 1 if there are none.
 #[track_caller]
 fn lists(request: &Request, paths: &[[u32; 4]]) {
     let (found, end) = listing(request, 100);
-    let expected: Vec<_> = paths.iter().map(|path| (path.to_vec(), 14)).collect();
+    let expected: Vec<_> = paths.iter().map(|path| (path.to_vec(), 14, 1)).collect();
     let none = if paths.is_empty() { 1 } else { 2 };
-    assert_eq!((found, end), (expected, (none, [0; 3])));
+    assert_eq!((found, end), (expected, (none, [0; 4])));
 }
 
 #[test]
@@ -131,9 +131,9 @@ fn worked_three_paths_then_2() {
     assert_eq!(find_next(&request, &SQTZ, "W"), of_14(SQUZ));
     assert_eq!(find_next(&request, &SQUZ, "W"), Err((2, 0)));
     lists(&request, &[SPUZ, SQTZ, SQUZ]);
-    let (mut path, mut numbers) = ([0; 5], [7; 3]);
+    let (mut path, mut numbers) = ([0; 5], [7; 4]);
     let number = tests::paths::first(&request, &mut path, &mut numbers);
-    assert_eq!((number, numbers), (0, [0, 14, 0x4160_0000]));
+    assert_eq!((number, numbers), (0, [0, 14, 0x4160_0000, 1]));
     assert_eq!(path, [S, P, U, Z, 0]);
     let long = [long_as(64497), long_as(64498)].concat();
     lists(&ask(&w, &long), &[SPUZ, SQTZ, SQUZ]);
@@ -219,7 +219,7 @@ fn first_and_nexts(request: Request, path: &[u32], capacity: usize) -> Vec<(u32,
     let expected = |none: u32| match (capacity < needed, reached) {
         (true, _) => Err((34, 0)),
         (_, false) => Err((none, 0)),
-        _ => Ok((path.to_vec(), needed as u32 - 1)),
+        _ => Ok((path.to_vec(), needed as u32 - 1, 1)),
     };
     let find = |given: Option<&[u32]>| {
         let path = buffer(capacity);
@@ -266,16 +266,16 @@ fn inputs_may_lie_at_any_address() {
 }
 
 #[test]
-fn only_the_three_numbers_are_stored() {
+fn only_the_four_numbers_are_stored() {
     for (list, expected) in [
-        (&SHORT[..], [7, 0, 14, 0x4160_0000, 7]),
-        (&SHORT[..6], [7, 4, 0, 0, 7]),
+        (&SHORT[..], [7, 0, 14, 0x4160_0000, 1, 7]),
+        (&SHORT[..6], [7, 4, 0, 0, 0, 7]),
     ] {
         let w = profile_w();
-        let (mut around, mut again, mut path) = ([7; 5], [7; 5], [0; 4]);
-        let numbers = (&mut around[1..4]).try_into().expect("three numbers");
+        let (mut around, mut again, mut path) = ([7; 6], [7; 6], [0; 4]);
+        let numbers = (&mut around[1..5]).try_into().expect("four numbers");
         tests::paths::first(&ask(&w, list), &mut path, numbers);
-        let numbers = (&mut again[1..4]).try_into().expect("three numbers");
+        let numbers = (&mut again[1..5]).try_into().expect("four numbers");
         tests::paths::next(&ask(&w, list), &[0; 4], &mut path, numbers);
         assert_eq!((around, again), (expected, expected));
     }
@@ -284,7 +284,7 @@ fn only_the_three_numbers_are_stored() {
 #[test]
 fn stack_of_at_most_16_kib() {
     let used = |request: Request, given: &[u32]| {
-        let (mut path, mut numbers) = ([0; LONGEST], [0; 3]);
+        let (mut path, mut numbers) = ([0; LONGEST], [0; 4]);
         let first =
             stack::bytes_used(|| _ = tests::paths::first(&request, &mut path, &mut numbers));
         let next =
@@ -295,7 +295,7 @@ fn stack_of_at_most_16_kib() {
         generate::equal_paths_request(),
         generate::largest_request(4),
     );
-    let (mut path, mut numbers) = ([0; LONGEST], [0; 3]);
+    let (mut path, mut numbers) = ([0; LONGEST], [0; 4]);
     reference::first(&equal.request(), &mut path, &mut numbers);
     let large = [used(equal.request(), &path), used(largest.request(), &path)];
     let generated = (0..1_000).map(|seed| {

@@ -3,7 +3,7 @@
 //! profile was made.
 
 use reference::generate::{self, Random, EQUAL_PATHS_WIDTHS};
-use reference::plain::Plain;
+use reference::plain::{Listed, Plain};
 use reference::{Question, Request, ShortestPaths};
 use tests::compare::{seeds, Kinds};
 use tests::paths::{find_first, find_next, listing};
@@ -13,8 +13,9 @@ use tests::paths::{find_first, find_next, listing};
 /// Above this many walks a case is too large to list.
 const MOST_WALKS: u128 = 20_000;
 
-/// The paths of a request in order, and their total, by listing everything.
-fn plain_listing(request: &Request) -> Option<(Vec<Vec<u32>>, Option<u32>)> {
+/// The paths of a request in order, their total and round, by listing
+/// everything.
+fn plain_listing(request: &Request) -> Option<Listed> {
     let plain = Plain::new(request).ok()?;
     (plain.walk_count() <= MOST_WALKS).then(|| plain.listing())
 }
@@ -35,15 +36,16 @@ fn listings_run_to_the_end() {
     let (mut cases, mut paths) = (0, 0);
     for seed in seeds(9_000) {
         let case = generate::small_request_case(seed);
-        let Some((expected, total)) = plain_listing(&case.request()) else {
+        let Some(plain) = plain_listing(&case.request()) else {
             continue;
         };
+        let expected = plain.paths;
         let (found, end) = listing(&case.request(), expected.len());
         let none = if expected.is_empty() { 1 } else { 2 };
-        assert_eq!(end, (none, [0; 3]), "small_request_case({seed})");
+        assert_eq!(end, (none, [0; 4]), "small_request_case({seed})");
         assert_eq!(found.len(), expected.len(), "small_request_case({seed})");
-        for ((path, cost), listed) in found.iter().zip(&expected) {
-            let same = path == listed && Some(*cost) == total;
+        for ((path, cost, round), listed) in found.iter().zip(&expected) {
+            let same = path == listed && (Some(*cost), *round) == (plain.total, plain.round);
             assert!(
                 same,
                 "small_request_case({seed}): {path:08X?} for {listed:08X?}"
@@ -95,17 +97,18 @@ fn next_after_any_list() {
     for seed in seeds(3_000) {
         let case = generate::small_request_case(seed);
         let request = case.request();
-        let Some((listed, total)) = plain_listing(&request) else {
+        let Some(plain) = plain_listing(&request) else {
             continue;
         };
+        let listed = plain.paths;
         let length = tests::paths::path_length(&request);
         for given in given_lists(&mut Random::new(seed, 111), &request, &listed) {
             let which = format!("small_request_case({seed}) after {given:08X?}");
             let found = find_next(&request, &given, &which);
             let greater = listed.iter().find(|path| **path > given);
-            let expected = match (given.len() == length, greater, total) {
+            let expected = match (given.len() == length, greater, plain.total) {
                 (false, ..) => Err((33, 0)),
-                (_, Some(path), Some(total)) => Ok((path.clone(), total)),
+                (_, Some(path), Some(total)) => Ok((path.clone(), total, plain.round)),
                 _ => Err((2, 0)),
             };
             assert_eq!(found, expected, "{which}");
@@ -137,12 +140,12 @@ fn next_after_any_list() {
 fn a_thousand_of_the_most_equal_paths() {
     let case = generate::equal_paths_request();
     let request = case.request();
-    let paths = ShortestPaths::new(&Question::accept(&request).expect("it is accepted"));
+    let paths = ShortestPaths::new(Question::accept(&request).expect("it is accepted"));
     let (found, _) = listing(&request, 1_001);
     assert_eq!(found.len(), 1_001);
     for (position, found) in (0..).zip(found) {
         let path = paths.at(position).expect("there are more");
-        assert_eq!(found, (path, 16), "{position}");
+        assert_eq!(found, (path, 16, 1), "{position}");
     }
 }
 
@@ -171,7 +174,7 @@ fn far_inside_the_most_equal_paths() {
     assert!(count > 1 << 58);
     let random = &mut Random::new(1, 112);
     let next = |given: &[u32]| find_next(&request, given, format_args!("{given:08X?}"));
-    let at = |position| Ok((spelled(position), 16));
+    let at = |position| Ok((spelled(position), 16, 1));
     assert_eq!(find_first(&request, "first"), at(0));
     for _ in 0..300 {
         let position = random.step() % (count - 1);

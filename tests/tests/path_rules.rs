@@ -42,7 +42,7 @@ fn bounds_around_every_kind_of_total() {
             };
             let within = f64::from(total) <= f64::from(f32::from_bits(bound_bits));
             let which = format!("total {total}, bound {bound_bits:08X}");
-            let found: Found = Ok((path.clone(), total));
+            let found: Found = Ok((path.clone(), total, 1));
             let (first, next) = match within {
                 true => (found.clone(), found),
                 false => (Err((1, 0)), Err((2, 0))),
@@ -122,7 +122,8 @@ fn source_equal_to_destination() {
     };
     assert_eq!(to_itself(&[]), Err((1, 0)));
     assert_eq!(to_itself(&[hop(0, 0, S, P, 1, B100)]), Err((1, 0)));
-    assert_eq!(to_itself(&[hop(0, 0, S, S, 3, B100)]), Ok((vec![S, S], 3)));
+    let there = Ok((vec![S, S], 3, 1));
+    assert_eq!(to_itself(&[hop(0, 0, S, S, 3, B100)]), there);
 }
 
 /// S, P and Z as entry nodes of both domains after the first: any address may
@@ -140,9 +141,9 @@ fn an_address_twice_on_a_path() {
     let request = ask(&profile, &SHORT);
     let expected: Vec<_> = nodes
         .into_iter()
-        .flat_map(|a| nodes.map(|b| (vec![S, a, b, Z], 1)))
+        .flat_map(|a| nodes.map(|b| (vec![S, a, b, Z], 1, 1)))
         .collect();
-    assert_eq!(listing(&request, 20), (expected, (2, [0; 3])));
+    assert_eq!(listing(&request, 20), (expected, (2, [0; 4])));
     let exclude = excluded(Z, 32);
     let request = Request {
         exclude: &exclude,
@@ -178,16 +179,16 @@ fn the_order_of_addresses() {
         ..ask(&profile, &[32, 4, 0, 2])
     };
     nodes.sort_unstable();
-    let expected: Vec<_> = nodes.iter().map(|&v| (vec![7, v, 9], 0)).collect();
-    assert_eq!(listing(&request, 20), (expected, (2, [0; 3])));
+    let expected: Vec<_> = nodes.iter().map(|&v| (vec![7, v, 9], 0, 1)).collect();
+    assert_eq!(listing(&request, 20), (expected, (2, [0; 4])));
     for (index, &v) in nodes.iter().enumerate() {
-        let after = nodes.get(index + 1).map(|&v| (vec![7, v, 9], 0));
+        let after = nodes.get(index + 1).map(|&v| (vec![7, v, 9], 0, 1));
         for last in [9, 10, u32::MAX] {
             let found = find_next(&request, &[7, v, last], v);
             assert_eq!(found.ok(), after, "{v:08X}");
         }
         let found = find_next(&request, &[7, v, 8], v);
-        assert_eq!(found, Ok((vec![7, v, 9], 0)));
+        assert_eq!(found, Ok((vec![7, v, 9], 0, 1)));
     }
 }
 
@@ -212,7 +213,7 @@ fn lists_around_the_paths_of_w() {
         ([u32::MAX; 4], None),
     ] {
         let found = find_next(&request, &given, "W");
-        let expected = expected.map(|path| (path.to_vec(), 14)).ok_or((2, 0));
+        let expected = expected.map(|path| (path.to_vec(), 14, 1)).ok_or((2, 0));
         assert_eq!(found, expected, "{given:08X?}");
     }
 }

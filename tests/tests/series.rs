@@ -9,7 +9,7 @@ use std::collections::BTreeMap;
 use tests::by_hand::{ask, profile_w, P, Q, S, SHORT, T, U, Z};
 use tests::compare::{seeds, Counts, Kinds, Lent};
 use tests::paths::{self, path_length};
-use tests::series::{kinds_of, series, SeriesCase, MALFORMED};
+use tests::series::{kinds_of, series, SeriesCase, MALFORMED, NUMBERS};
 use tests::{stack, wrong};
 
 /// Up to 40 calls with buffers of any size, mostly beginning with a first.
@@ -114,7 +114,7 @@ fn a_series_is_its_calls() {
         let mut last_written = Vec::new();
         let mut one_by_one = (Vec::new(), buffers.clone());
         for (call, buffer) in calls.iter().zip(&mut one_by_one.1) {
-            let mut numbers = [7; 3];
+            let mut numbers = [7; 4];
             let number = match call {
                 First => paths::first(&request, buffer, &mut numbers),
                 Next => paths::next(&request, &last_written, buffer, &mut numbers),
@@ -153,7 +153,10 @@ fn worked_series_on_profile_w() {
     assert_eq!(numbers, [33, 0, 0, 34, 0, 2, 34, 2, 0, 0]);
     for outcome in &outcomes {
         let done = outcome.number == 0;
-        let expected = if done { [0, 14, 0x4160_0000] } else { [0; 3] };
+        let expected = match done {
+            true => [0, 14, 0x4160_0000, 1],
+            false => [0; 4],
+        };
         assert_eq!(outcome.numbers, expected);
     }
     let mut expected = buffers.clone();
@@ -198,7 +201,7 @@ fn each_call_gives_the_refusal() {
             buffers: &buffers,
         };
         let (outcomes, left) = case.run(1, format_args!("{told:?}: {request:?}"));
-        let numbers = [place, 0, 0];
+        let numbers = [place, 0, 0, 0];
         assert_eq!(outcomes, [Outcome { number, numbers }; 4], "{request:?}");
         assert_eq!(left, buffers, "{request:?}");
         counts.add((number, place));
@@ -233,10 +236,11 @@ fn counts_and_kinds() {
                 let sizes: Vec<u32> = (0..sizes_count).map(|i| [4, 0, 5, 3, 4][i]).collect();
                 let whole: u32 = sizes.iter().sum();
                 for buffers in whole.saturating_sub(2)..whole + 3 {
-                    for numbers in (4 * calls).saturating_sub(5)..4 * calls + 3 {
+                    let needed = NUMBERS * calls;
+                    for numbers in needed.saturating_sub(6)..needed + 3 {
                         let kinds = vec![0; calls];
                         let lent = [buffers as usize, numbers];
-                        let fits = calls == sizes_count && buffers == whole && numbers >= 4 * calls;
+                        let fits = calls == sizes_count && buffers == whole && numbers >= needed;
                         let expected = if fits {
                             (0, calls > 0)
                         } else {
@@ -253,7 +257,7 @@ fn counts_and_kinds() {
             for kind in 0..=255 {
                 let mut kinds = [0, 1, 1, 0, 1];
                 kinds[at] = kind;
-                let answer = malformed(&request, &kinds, &[4; 5], [20, 20]);
+                let answer = malformed(&request, &kinds, &[4; 5], [20, 25]);
                 let expected = if kind > 1 {
                     (MALFORMED, false)
                 } else {
@@ -279,7 +283,8 @@ fn sizes_that_add_up_to_more_than_32_bits() {
         &[u32::MAX, u32::MAX, 6],
     ] {
         let kinds = vec![0; sizes.len()];
-        let answer = malformed(&ask(&w, &SHORT), &kinds, sizes, [4, 4 * sizes.len()]);
+        let lent = [4, NUMBERS * sizes.len()];
+        let answer = malformed(&ask(&w, &SHORT), &kinds, sizes, lent);
         assert_eq!(answer, (MALFORMED, false), "{sizes:?}");
     }
 }
@@ -289,7 +294,7 @@ fn stack_of_at_most_16_kib() {
     let used = |request: Request, calls: &[Call], size: u32| {
         let (kinds, sizes) = (kinds_of(calls), vec![size; calls.len()]);
         let mut buffers = vec![0; calls.len() * size as usize];
-        let mut numbers = vec![0; 4 * calls.len()];
+        let mut numbers = vec![0; NUMBERS * calls.len()];
         stack::bytes_used(|| _ = series(&request, &kinds, &sizes, &mut buffers, &mut numbers))
     };
     let (equal, largest) = (

@@ -4,6 +4,7 @@
 
 use reference::generate::{self, Random, RequestCase};
 use reference::{Question, Request};
+use tests::by_hand::desired::any_desired;
 use tests::by_hand::{ask, profile_w, P, Q, S, SHORT, T, U};
 use tests::compare::{seeds, Counts, Kinds, Lent};
 use tests::lists::{domain_kind, excluded, short_as, verdict};
@@ -55,7 +56,7 @@ fn generated_requests() {
     kinds.cover("tree, generated", &wanted);
 }
 
-const KINDS: [&str; 12] = [
+const KINDS: [&str; 14] = [
     "all short",
     "one short",
     "capacity exact",
@@ -66,6 +67,8 @@ const KINDS: [&str; 12] = [
     "entry constraint",
     "exclude list",
     "exclude list of 1,000 bytes or more",
+    "exclusion desired, round 1",
+    "exclusion desired, round 2",
     "bound counts",
     "bound out of range, doesn't count",
 ];
@@ -93,6 +96,9 @@ fn accepted_kinds(case: &RequestCase, tree: &Tree, kinds: &mut Kinds) {
     add(!case.exclude.is_empty(), "exclude list");
     let long = case.exclude.len() >= 1_000;
     add(long, "exclude list of 1,000 bytes or more");
+    let desired = any_desired(&case.exclude);
+    add(desired && tree.round == 1, "exclusion desired, round 1");
+    add(tree.round == 2, "exclusion desired, round 2");
     add(case.bound_counts, "bound counts");
     let unseen = !case.bound_counts && case.bound_bits >= 0x7F80_0000;
     add(unseen, "bound out of range, doesn't count");
@@ -211,6 +217,7 @@ fn the_largest_profile() {
         let built = of_case(&case).build(format_args!("largest_request({seed})"));
         let tree = built.expect("it is accepted");
         assert_eq!((tree.entries.len(), tree.hops_examined), (241, 3_000));
+        assert_eq!(tree.round, 1);
         assert!(tree.entries.iter().all(|entry| entry.2.is_some()));
     }
 }
@@ -278,7 +285,7 @@ fn a_length_is_more_than_32_bits() {
 fn a_capacity_is_more_than_32_bits() {
     let (mut level, mut address, mut cost) = ([7; 5], [7; 5], [7; 5]);
     let mut reachable = vec![0; (1 << 32) + 1];
-    let mut numbers = [7; 3];
+    let mut numbers = [7; 4];
     let number = tests::tree::tree(
         &ask(&profile_w(), &SHORT),
         &mut level,
@@ -287,7 +294,7 @@ fn a_capacity_is_more_than_32_bits() {
         &mut cost,
         &mut numbers,
     );
-    assert_eq!((number, numbers), (0, [0, 5, 8]));
+    assert_eq!((number, numbers), (0, [0, 5, 8, 1]));
     assert_eq!((level, cost), ([0, 1, 1, 2, 2], [14, 4, 11, 2, 3]));
     assert_eq!(
         (address, &reachable[..6]),
@@ -316,13 +323,13 @@ fn inputs_may_lie_at_any_address() {
 }
 
 #[test]
-fn only_the_three_numbers_are_stored() {
+fn only_the_four_numbers_are_stored() {
     for (list, expected) in [
-        (&SHORT[..], [7, 0, 5, 8, 7]),
-        (&SHORT[..6], [7, 4, 0, 0, 7]),
+        (&SHORT[..], [7, 0, 5, 8, 1, 7]),
+        (&SHORT[..6], [7, 4, 0, 0, 0, 7]),
     ] {
-        let mut around = [7; 5];
-        let numbers = (&mut around[1..4]).try_into().expect("three numbers");
+        let mut around = [7; 6];
+        let numbers = (&mut around[1..5]).try_into().expect("four numbers");
         let (mut words, mut reachable) = ([[0; 5]; 3], [0; 5]);
         let [level, address, cost] = &mut words;
         tests::tree::tree(
@@ -342,7 +349,7 @@ fn stack_of_at_most_16_kib() {
     let used = |case: &RequestCase| {
         let (mut words, mut reachable) = ([[0; MOST_ENTRIES]; 3], [0; MOST_ENTRIES]);
         let [level, address, cost] = &mut words;
-        let (request, mut numbers) = (case.request(), [0; 3]);
+        let (request, mut numbers) = (case.request(), [0; 4]);
         stack::bytes_used(|| {
             tests::tree::tree(&request, level, address, &mut reachable, cost, &mut numbers);
         })

@@ -13,6 +13,7 @@ fn tree_of(entries: &[Entry], hops_examined: u32) -> Built {
     Ok(Tree {
         entries: entries.to_vec(),
         hops_examined,
+        round: 1,
     })
 }
 

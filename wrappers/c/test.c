@@ -1,5 +1,6 @@
 /* The wrapper on document 01's worked examples, each call and each kind of
- * answer. The first argument is the file of profile W. */
+ * answer, and on desired exclusions. The first argument is the file of profile
+ * W. */
 #include <math.h>
 #include <stdio.h>
 #include <stdlib.h>
@@ -13,12 +14,15 @@
 
 enum { S = 1, P = 11, Q = 12, T = 21, U = 22, Z = 99 };
 
+enum { DESIRED = 0x80 }; /* X set */
+#define WITHOUT(x, last) (x) | 1, 8, 192, 0, 2, (last), 32, 1
+
 static const uint8_t onward[] = {32, 4, 0xFB, 0xF1, 32, 4, 0xFB, 0xF2};
 static const uint8_t through_u[] = {32, 4, 0xFB, 0xF1, 1, 8, 192, 0, 2, U,
                                     32, 0, 32, 4, 0xFB, 0xF2};
 static const uint8_t back[] = {5, 8, 0, 0, 0, 0, 0xFB, 0xF1,
                                5, 8, 0, 0, 0, 0, 0xFB, 0xF0};
-static const uint8_t without_q[] = {1, 8, 192, 0, 2, Q, 32, 1};
+static const uint8_t without_q[] = {WITHOUT(0, Q)};
 static const uint8_t too_long[1025] = {0};
 
 static uint8_t w_bytes[232];
@@ -36,9 +40,10 @@ static yq_request request(void)
     return asked;
 }
 
-/* The shortest paths of a request, each of total 14, in the last bytes of their
- * inner nodes. */
-static void listed(yq_request asked, size_t count, const uint8_t inner[][2])
+/* The shortest paths of a request, each of total 14 and of this round, in the
+ * last bytes of their inner nodes. */
+static void listed_in(uint32_t round, yq_request asked, size_t count,
+                      const uint8_t inner[][2])
 {
     yq_paths paths = yq_profile_paths(&w, &asked);
     for (size_t i = 0; i < count; i++) {
@@ -49,30 +54,44 @@ static void listed(yq_request asked, size_t count, const uint8_t inner[][2])
         EXPECT(paths.path.addresses[2] == NODE(inner[i][1]));
         EXPECT(paths.path.addresses[3] == NODE(Z));
         EXPECT(paths.path.total == 14 && paths.path.total_float == 14);
+        EXPECT(paths.path.round == round);
     }
     EXPECT(!yq_paths_next(&paths));
     EXPECT(is(paths.answer, count == 0 ? 1 : 2, 0));
     EXPECT(!yq_paths_next(&paths));
 }
 
+static void listed(yq_request asked, size_t count, const uint8_t inner[][2])
+{
+    listed_in(1, asked, count, inner);
+}
+
+/* The tree of a request by both other domains: what S, P, Q, T and U cost, 0
+ * where Z can't be reached. */
+static void costed_in(uint32_t round, yq_request asked, const uint8_t costs[5])
+{
+    static const uint32_t nodes[][2] = {{0, S}, {1, P}, {1, Q}, {2, T}, {2, U}};
+    yq_entries tree;
+    EXPECT(is(yq_profile_tree(&w, &asked, &tree), 0, 0));
+    EXPECT(tree.count == 5 && tree.tally == 8 * round && tree.round == round);
+    for (size_t i = 0; i < 5; i++) {
+        EXPECT(tree.entries[i].level == nodes[i][0]);
+        EXPECT(tree.entries[i].address == NODE(nodes[i][1]));
+        EXPECT(tree.entries[i].reachable == (costs[i] != 0));
+        EXPECT(tree.entries[i].cost == costs[i]);
+    }
+}
+
 static void tree(void)
 {
-    static const uint32_t expected[][3] = {
-        {0, S, 14}, {1, P, 4}, {1, Q, 11}, {2, T, 2}, {2, U, 3}};
+    static const uint8_t costs[] = {14, 4, 11, 2, 3};
     yq_entries tree;
     yq_request asked = request();
-    EXPECT(is(yq_profile_tree(&w, &asked, &tree), 0, 0));
-    EXPECT(tree.count == 5 && tree.tally == 8);
-    for (size_t i = 0; i < 5; i++) {
-        EXPECT(tree.entries[i].level == expected[i][0]);
-        EXPECT(tree.entries[i].address == NODE(expected[i][1]));
-        EXPECT(tree.entries[i].reachable);
-        EXPECT(tree.entries[i].cost == expected[i][2]);
-    }
+    costed_in(1, asked, costs);
     asked.include.at = NULL;
     asked.include.count = 0;
     EXPECT(is(yq_profile_tree(&w, &asked, &tree), 0, 0));
-    EXPECT(tree.count == 1 && tree.tally == 0);
+    EXPECT(tree.count == 1 && tree.tally == 0 && tree.round == 1);
     EXPECT(!tree.entries[0].reachable && tree.entries[0].cost == 0);
     listed(asked, 0, NULL);
 }
@@ -99,6 +118,37 @@ static void paths(void)
     asked.include.at = through_u;
     asked.include.count = sizeof through_u;
     listed(asked, 2, by_u);
+}
+
+static void rounds(void)
+{
+    static const struct {
+        uint8_t exclude[16], bytes, round, paths, inner[3][2], costs[5];
+    } cases[] = {
+        {{WITHOUT(DESIRED, Q)}, 8, 1, 1, {{P, U}}, {14, 4, 0, 2, 3}},
+        {{WITHOUT(DESIRED, P), WITHOUT(DESIRED, Q)}, 16,
+         2, 3, {{P, U}, {Q, T}, {Q, U}}, {14, 4, 11, 2, 3}},
+        {{WITHOUT(0, P), WITHOUT(DESIRED, Q)}, 16,
+         2, 2, {{Q, T}, {Q, U}}, {14, 0, 11, 2, 3}},
+        {{WITHOUT(0, P), WITHOUT(0, Q)}, 16, 1, 0, {{0}}, {0, 0, 0, 2, 3}},
+    };
+    for (size_t i = 0; i < sizeof cases / sizeof *cases; i++) {
+        yq_request asked = request();
+        asked.exclude.at = cases[i].exclude;
+        asked.exclude.count = cases[i].bytes;
+        listed_in(cases[i].round, asked, cases[i].paths, cases[i].inner);
+        costed_in(cases[i].round, asked, cases[i].costs);
+    }
+    /* AS 64511, which W lacks: the bound alone leaves no path in either round,
+     * and the tree, which it isn't applied to, is of the second. */
+    static const uint8_t lacking[] = {DESIRED | 32, 4, 0xFB, 0xFF};
+    yq_request asked = request();
+    asked.exclude.at = lacking;
+    asked.exclude.count = sizeof lacking;
+    asked.bounded = true;
+    asked.bound = 13;
+    listed(asked, 0, NULL);
+    costed_in(2, asked, cases[1].costs);
 }
 
 static void next(void)
@@ -215,6 +265,7 @@ int main(int count, char **arguments)
     EXPECT(is(yq_profile_open(&w, w_bytes, sizeof w_bytes), 0, 0));
     tree();
     paths();
+    rounds();
     next();
     refusals();
     profiles();

@@ -13,6 +13,10 @@
  * A call answers with document 01's number, 0 when done, and the place of a
  * refusal (yachayniq.h lists them). What it is to fill is filled on 0 alone.
  * An address is a number: 192.0.2.1 is 0xC0000201.
+ *
+ * An exclusion with X set is only desired: if there is one, and no path keeps
+ * the bound with all exclusions, only those with X clear count, and the tree
+ * and the paths are of round 2, else of round 1.
  */
 #ifndef YQ_PROFILE_H
 #define YQ_PROFILE_H
@@ -64,11 +68,11 @@ typedef struct {
     uint8_t bytes[YQ_LIST];
 } yq_list;
 
-/* A tree, and how many hop records were examined for it. The cost is 0 where
- * the destination can't be reached. */
+/* A tree, how many hop records were examined for it, and its round. The cost
+ * is 0 where the destination can't be reached. */
 typedef struct {
     size_t count;
-    uint32_t tally;
+    uint32_t tally, round;
     struct {
         uint32_t level, address;
         bool reachable;
@@ -76,12 +80,13 @@ typedef struct {
     } entries[YQ_ENTRIES];
 } yq_entries;
 
-/* A path, and its total as a whole number and as a float. */
+/* A path, its total as a whole number and as a float, and its round. */
 typedef struct {
     size_t count;
     uint32_t addresses[YQ_ADDRESSES];
     uint32_t total;
     float total_float;
+    uint32_t round;
 } yq_path;
 
 /* The shortest paths of a request: where yq_paths_next stands. */
@@ -188,13 +193,14 @@ static inline yq_answer yq_profile_tree(const yq_profile *profile,
 {
     uint32_t level[YQ_ENTRIES], address[YQ_ENTRIES], cost[YQ_ENTRIES];
     uint8_t reachable[YQ_ENTRIES];
-    uint32_t numbers[3];
+    uint32_t numbers[4];
     uint32_t number = yq_tree(YQ_ASKED(profile, request),
                               level, YQ_ENTRIES, address, YQ_ENTRIES,
                               reachable, YQ_ENTRIES, cost, YQ_ENTRIES, numbers);
     if (number == 0) {
         tree->count = numbers[1];
         tree->tally = numbers[2];
+        tree->round = numbers[3];
         for (size_t i = 0; i < numbers[1]; i++) {
             tree->entries[i].level = level[i];
             tree->entries[i].address = address[i];
@@ -210,6 +216,7 @@ static inline void yq_found(yq_path *path, size_t count, const uint32_t *numbers
     path->count = count;
     path->total = numbers[1];
     memcpy(&path->total_float, &numbers[2], sizeof path->total_float);
+    path->round = numbers[3];
 }
 
 /* The first of the shortest paths; 1 where there is none. */
@@ -217,7 +224,7 @@ static inline yq_answer yq_profile_first(const yq_profile *profile,
                                          const yq_request *request,
                                          yq_path *path)
 {
-    uint32_t numbers[3];
+    uint32_t numbers[4];
     uint32_t number = yq_first(YQ_ASKED(profile, request),
                                path->addresses, YQ_ADDRESSES, numbers);
     if (number == 0) {
@@ -238,7 +245,7 @@ static inline yq_answer yq_profile_next(const yq_profile *profile,
                                         const yq_request *request,
                                         const yq_path *after, yq_path *path)
 {
-    uint32_t given[YQ_ADDRESSES], numbers[3];
+    uint32_t given[YQ_ADDRESSES], numbers[4];
     /* No path has no address: 33, like more than there is room for. */
     size_t count = after->count <= YQ_ADDRESSES ? after->count : 0;
     memcpy(given, after->addresses, count * sizeof *given);
@@ -253,7 +260,7 @@ static inline yq_answer yq_profile_next(const yq_profile *profile,
 static inline yq_paths yq_profile_paths(const yq_profile *profile,
                                         const yq_request *request)
 {
-    yq_paths paths = {profile, request, false, {0, 0}, {0, {0}, 0, 0}};
+    yq_paths paths = {profile, request, false, {0, 0}, {0, {0}, 0, 0, 0}};
     return paths;
 }
 

@@ -1,15 +1,17 @@
-"""The wrapper on document 01's worked examples, each call and each kind of answer."""
+"""The wrapper on document 01's worked examples, each call and each kind of answer,
+and on desired exclusions."""
 
 import math
 import pathlib
 import unittest
 
-from yachayniq import Entry, Path, Profile, Refused, Request, Stop, check_profile
+from yachayniq import Entry, Path, Profile, Refused, Request, Stop, Tree, check_profile
 
 W = (pathlib.Path(__file__).parents[2] / "examples" / "w.dsp").read_bytes()
 S, P, Q, T, U, Z = ("192.0.2.%d" % last for last in (1, 11, 12, 21, 22, 99))
+EVERY = [(S, P, U, Z), (S, Q, T, Z), (S, Q, U, Z)]
 ONWARD = bytes.fromhex("2004FBF1 2004FBF2")
-WITHOUT_Q = bytes.fromhex("0108C000020C2001")
+WITHOUT_P, WITHOUT_Q = (bytes.fromhex(f"0108C00002{last}2001") for last in ("0B", "0C"))
 BACK = bytes.fromhex("05080000 0000FBF1 05080000 0000FBF0")
 
 # 64500 with OSPF area 0, 64501 with the areas 0 and 4
@@ -38,37 +40,53 @@ class ProfileW(unittest.TestCase):
         refusal = raised.exception
         self.assertEqual((refusal.number, refusal.place), (number, place))
 
-    def listed(self, **changes):
+    def listed(self, in_round=1, **changes):
         paths = list(self.w.paths(request(**changes)))
-        self.assertTrue(all(path.total == path.total_float == 14 for path in paths))
+        for path in paths:
+            self.assertEqual((path.total, path.total_float, path.round), (14, 14.0, in_round))
         return [path.addresses for path in paths]
 
+    def costed(self, in_round, costs, **changes):
+        """What S, P, Q, T and U cost; 0 where Z can't be reached."""
+        nodes = (0, S), (1, P), (1, Q), (2, T), (2, U)
+        entries = (Entry(*node, cost != 0, cost) for node, cost in zip(nodes, costs))
+        expected = Tree(tuple(entries), 8 * in_round, in_round)
+        self.assertEqual(self.w.tree(request(**changes)), expected)
+
     def test_tree(self):
-        tree = self.w.tree(request())
-        expected = [(0, S, 14), (1, P, 4), (1, Q, 11), (2, T, 2), (2, U, 3)]
-        self.assertEqual(tree.tally, 8)
-        self.assertEqual(
-            tree.entries,
-            tuple(Entry(level, node, True, cost) for level, node, cost in expected),
-        )
+        self.costed(1, (14, 4, 11, 2, 3))
         tree = self.w.tree(request(include=b""))
-        self.assertEqual(tree.entries, (Entry(0, S, False, 0),))
-        self.assertEqual(tree.tally, 0)
+        self.assertEqual(tree, Tree((Entry(0, S, False, 0),), 0, 1))
 
     def test_paths(self):
-        every = [(S, P, U, Z), (S, Q, T, Z), (S, Q, U, Z)]
-        self.assertEqual(self.listed(), every)
-        self.assertEqual(self.listed(bound=14.0), every)
+        self.assertEqual(self.listed(), EVERY)
+        self.assertEqual(self.listed(bound=14.0), EVERY)
         self.assertEqual(self.listed(bound=13.0), [])
-        self.assertEqual(self.listed(bound=math.nextafter(14, 0)), every)  # 14 as a 32-bit float
-        self.assertEqual(self.listed(bandwidth=100.00001), every[:2])
-        self.assertEqual(self.listed(exclude=WITHOUT_Q), every[:1])
+        self.assertEqual(self.listed(bound=math.nextafter(14, 0)), EVERY)  # 14 as a 32-bit float
+        self.assertEqual(self.listed(bandwidth=100.00001), EVERY[:2])
+        self.assertEqual(self.listed(exclude=WITHOUT_Q), EVERY[:1])
         pinned = bytes.fromhex("2004FBF1 0108C000 02162000 2004FBF2")
-        self.assertEqual(self.listed(include=pinned), [every[0], every[2]])
+        self.assertEqual(self.listed(include=pinned), [EVERY[0], EVERY[2]])
+
+    def test_rounds(self):
+        p, q = (b"\x81" + exclusion[1:] for exclusion in (WITHOUT_P, WITHOUT_Q))  # X set
+        for exclude, in_round, paths, costs in (
+            (q, 1, EVERY[:1], (14, 4, 0, 2, 3)),
+            (p + q, 2, EVERY, (14, 4, 11, 2, 3)),
+            (WITHOUT_P + q, 2, EVERY[1:], (14, 0, 11, 2, 3)),
+            (WITHOUT_P + WITHOUT_Q, 1, [], (0, 0, 0, 2, 3)),
+        ):
+            self.assertEqual(self.listed(in_round, exclude=exclude), paths)
+            self.costed(in_round, costs, exclude=exclude)
+        # AS 64511, which W lacks: the bound alone leaves no path in either round,
+        # and the tree, which it isn't applied to, is of the second.
+        missed = {"exclude": bytes.fromhex("A004FBFF"), "bound": 13.0}
+        self.assertIsNone(self.w.first(request(**missed)))
+        self.costed(2, (14, 4, 11, 2, 3), **missed)
 
     def test_first_and_next(self):
         path = self.w.first(request())
-        self.assertEqual(path, Path((S, P, U, Z), 14, 14.0))
+        self.assertEqual(path, Path((S, P, U, Z), 14, 14.0, 1))
         self.assertIsNone(self.w.first(request(include=b"")))
         self.assertEqual(self.w.next(request(), (S, P, T, Z)), path)
         self.assertEqual(self.w.next(request(), path).addresses, (S, Q, T, Z))

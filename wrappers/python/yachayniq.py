@@ -9,6 +9,10 @@ What the library refuses is raised as Refused, with document 01's number and
 place (include/yachayniq.h lists them). Addresses are dotted text; where one is
 taken, a whole number or an ipaddress.IPv4Address will do as well.
 
+An exclusion with X set is only desired: if there is one, and no path keeps the
+bound with all exclusions, only those with X clear count, and the tree and the
+paths are of round 2, else of round 1.
+
 The library is loaded from the shared object that YQ_SO names, else from
 target/libyachayniq.so. docs/LINKING.md says how to make that.
 """
@@ -77,19 +81,21 @@ class Entry:
 
 @dataclass(frozen=True)
 class Tree:
-    """A request's tree, and how many hop records were examined for it."""
+    """A request's tree, how many hop records were examined for it, and its round."""
 
     entries: tuple[Entry, ...]
     tally: int
+    round: int
 
 
 @dataclass(frozen=True)
 class Path:
-    """A shortest path, and its total as a whole number and as a float."""
+    """A shortest path, its total as a whole number and as a float, and its round."""
 
     addresses: tuple[str, ...]
     total: int
     total_float: float
+    round: int
 
 
 def check_profile(data: bytes) -> None:
@@ -146,7 +152,7 @@ class Profile:
         address = (ctypes.c_uint32 * MOST_ENTRIES)()
         reachable = (ctypes.c_uint8 * MOST_ENTRIES)()
         cost = (ctypes.c_uint32 * MOST_ENTRIES)()
-        numbers = (ctypes.c_uint32 * 3)()
+        numbers = (ctypes.c_uint32 * 4)()
         number = _library().yq_tree(
             *self._request(request), *_counted(level), *_counted(address),
             *_counted(reachable), *_counted(cost), numbers,
@@ -156,12 +162,12 @@ class Profile:
             Entry(level[i], _dotted(address[i]), reachable[i] == 1, cost[i])
             for i in range(numbers[1])
         )
-        return Tree(tuple(entries), numbers[2])
+        return Tree(tuple(entries), numbers[2], numbers[3])
 
     def first(self, request: Request) -> Path | None:
         """The first of the shortest paths; None where there is none."""
         path = (ctypes.c_uint32 * MOST_ADDRESSES)()
-        numbers = (ctypes.c_uint32 * 3)()
+        numbers = (ctypes.c_uint32 * 4)()
         number = _library().yq_first(*self._request(request), *_counted(path), numbers)
         if number == 1:
             return None
@@ -176,7 +182,7 @@ class Profile:
         addresses = after.addresses if isinstance(after, Path) else list(after)
         given = (ctypes.c_uint32 * len(addresses))(*map(_number, addresses))
         path = (ctypes.c_uint32 * MOST_ADDRESSES)()
-        numbers = (ctypes.c_uint32 * 3)()
+        numbers = (ctypes.c_uint32 * 4)()
         number = _library().yq_next(
             *self._request(request), *_counted(given), *_counted(path), numbers
         )
@@ -214,7 +220,7 @@ def _unless_refused(number: int, numbers) -> None:
 
 def _path(addresses: list[int], numbers) -> Path:
     total_float = ctypes.c_float.from_buffer(ctypes.c_uint32(numbers[2])).value
-    return Path(tuple(map(_dotted, addresses)), numbers[1], total_float)
+    return Path(tuple(map(_dotted, addresses)), numbers[1], total_float, numbers[3])
 
 
 def _bytes(data: bytes) -> tuple:

@@ -8,6 +8,7 @@ use model::ProfileAnswer;
 use model::ReadAnswer;
 use model::TreeAnswer;
 use model::WriteAnswer;
+use path_answers::numbers::round_number;
 use profile::check_profile;
 use tree_fields::tree_numbers;
 ghost use mathlib.Core.Path.{_≡_};
@@ -95,7 +96,7 @@ pub extern "C" fn yq_write_list(
     }
 }
 
-// numbers: place, how many entries, tally
+// numbers: place, how many entries, tally, round
 #[no_mangle]
 pub extern "C" fn yq_tree(
     profile: &[u8],
@@ -111,7 +112,7 @@ pub extern "C" fn yq_tree(
     address: &mut [u32],
     reachable: &mut [u8],
     cost: &mut [u32],
-    numbers: &mut [u32; 3],
+    numbers: &mut [u32; 4],
 ) -> u32
     ensures { λ r. ⌜ TreeExport (requestOf (now (profile .entry)) ingress source destination (now (include .entry)) (now (exclude .entry)) (limitsOfBits «bandwidth_bits» «bound_counts» «bound_bits»)) (now (level .entry)) (now (address .entry)) (now (reachable .entry)) (now (cost .entry)) r (now (numbers .exit)) (now (level .exit)) (now (address .exit)) (now (reachable .exit)) (now (cost .exit)) ⌝ }
 {
@@ -130,12 +131,16 @@ pub extern "C" fn yq_tree(
         cost,
     );
     match answer {
-        TreeAnswer::Built { entries, tally } => {
-            *numbers = [0, entries, tally];
+        TreeAnswer::Built {
+            entries,
+            tally,
+            round,
+        } => {
+            *numbers = [0, entries, tally, round_number(round)];
             0
         }
         TreeAnswer::Refused(r) => {
-            *numbers = [r.place, 0, 0];
+            *numbers = [r.place, 0, 0, 0];
             r.number
         }
     }

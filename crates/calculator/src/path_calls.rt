@@ -3,7 +3,7 @@ use crate::limits::limits_of;
 use model::DomainIndex;
 use model::NodeAddress;
 use model::PathAnswer;
-use path_answers::numbers::four_of;
+use path_answers::numbers::five_of;
 use paths::first;
 use paths::next;
 use series::SeriesAnswer;
@@ -17,17 +17,17 @@ ghost use Rattle.request.specs.Checked.{requestOf};
 ghost use Rattle.path_answers.specs.Numbers.{Real};
 ghost use Rattle.calculator.specs.Exports.{PathExport, SeriesExport};
 
-// The number of an answer for a path; the place, the total and the bits of its float are stored.
-fn tell(answer: PathAnswer, numbers: &mut [u32; 3]) -> u32
+// The number of an answer for a path; the place, the total, the bits of its float and the round are stored.
+fn tell(answer: PathAnswer, numbers: &mut [u32; 4]) -> u32
     requires { ⌜ Real answer ⌝ }
     ensures { λ r. ⌜ (r ≡ numbersOfPath answer .answer) × (now (numbers .exit) ≡ numbersOfPath answer .others) ⌝ }
 {
-    let four = four_of(answer);
-    *numbers = [four[1], four[2], four[3]];
-    four[0]
+    let five = five_of(answer);
+    *numbers = [five[1], five[2], five[3], five[4]];
+    five[0]
 }
 
-// numbers: place, total, bits of the total's float
+// numbers: place, total, bits of the total's float, round
 #[no_mangle]
 pub extern "C" fn yq_first(
     profile: &[u8],
@@ -40,7 +40,7 @@ pub extern "C" fn yq_first(
     bound_counts: bool,
     bound_bits: u32,
     path: &mut [u32],
-    numbers: &mut [u32; 3],
+    numbers: &mut [u32; 4],
 ) -> u32
     ensures { λ r. ⌜ PathExport (Calls.first (requestOf (now (profile .entry)) ingress source destination (now (include .entry)) (now (exclude .entry)) (limitsOfBits «bandwidth_bits» «bound_counts» «bound_bits»)) (length (now (path .entry)))) (now (path .entry)) r (now (numbers .exit)) (now (path .exit)) ⌝ }
 {
@@ -72,7 +72,7 @@ pub extern "C" fn yq_next(
     bound_bits: u32,
     given: &[u32],
     path: &mut [u32],
-    numbers: &mut [u32; 3],
+    numbers: &mut [u32; 4],
 ) -> u32
     ensures { λ r. ⌜ PathExport (Calls.next (requestOf (now (profile .entry)) ingress source destination (now (include .entry)) (now (exclude .entry)) (limitsOfBits «bandwidth_bits» «bound_counts» «bound_bits»)) (now (given .entry)) (length (now (path .entry)))) (now (path .entry)) r (now (numbers .exit)) (now (path .exit)) ⌝ }
 {
@@ -91,7 +91,7 @@ pub extern "C" fn yq_next(
     tell(answer, numbers)
 }
 
-// four numbers for each call: its answer, place, total, bits of the total's float
+// five numbers for each call: its answer, place, total, bits of the total's float, round
 #[no_mangle]
 pub extern "C" fn yq_series(
     profile: &[u8],

@@ -5,11 +5,13 @@ use mathlib.Core.List.{List, List·Memᴰ}
 use Prim.Native.Nat.{ℕ, _≤_}
 use native.Mathlib.Omega.{arith}
 use Rattle.model.specs.declared.Hop.{Hop}
+use Rattle.model.specs.declared.Round.{Round}
 use Rattle.model.specs.declared.Verdict.the-variants.{Pass}
 use Rattle.model.specs.Lists.{countFrom}
 use Rattle.model.specs.Profile.{Layout, profileVerdict, hopCount, hopAt, hops}
 use Rattle.model.specs.Sequence.{Stop}
-use Rattle.model.specs.Request.{Request, layoutOf, Accepted, searchOf}
+use Rattle.model.specs.Request.{Request, layoutOf, Accepted, searchIn}
+use Rattle.model.specs.Rounds.{roundOf, searchOf}
 use Rattle.laws.proofs.Lists.{map-mem, countFrom-mem}
 use Rattle.laws.proofs.Accepted.{accepted}
 use Rattle.laws.proofs.HopKeys.{SortedHops}
@@ -24,12 +26,22 @@ accepted-costs L s e h m =
     let i = countFrom-mem 0 (hopCount s) (k .1) in
     subst (λ (g : Hop). g .cost ≤ L .mostCost) (sym (k .2)) ((accepted L s e .hop (k .0) (omega arith)) .costInRange)
 
+-- in either round
+pub accepted-paths-in
+    : (x : Round) (r : Request) (sequence : List Stop)
+    → Accepted r sequence
+    → SortedHops (hops (layoutOf r) (r .profile))
+    → ThePaths (searchIn x r sequence)
+unfolding searchIn
+accepted-paths-in x r sequence e s =
+    paths-are-the-paths (searchIn x r sequence) s ((accepted-length r sequence e) .1)
+    (accepted-costs (layoutOf r) (r .profile) (accepted-profile r sequence e))
+
+-- and so in the one that applies
 pub accepted-paths
     : (r : Request) (sequence : List Stop)
     → Accepted r sequence
     → SortedHops (hops (layoutOf r) (r .profile))
     → ThePaths (searchOf r sequence)
 unfolding searchOf
-accepted-paths r sequence e s =
-    paths-are-the-paths (searchOf r sequence) s ((accepted-length r sequence e) .1)
-    (accepted-costs (layoutOf r) (r .profile) (accepted-profile r sequence e))
+accepted-paths r sequence = accepted-paths-in (roundOf r sequence) r sequence

@@ -1,8 +1,9 @@
--- The cheapest of a list of routes are those at the least total; and the bound needs to be looked at once: all shortest paths keep it or none does.
+-- The cheapest of a list of routes are those at the least total; and the bound needs to be looked at once: all shortest paths keep it or none does, and some
+-- path is admissible exactly where the least total keeps it.
 -- From the laws of `leastFrom`, with the bound kept by every smaller total.
 use mathlib.Core.Path.{_≡_, refl, sym, subst, _∙_, ap}
 use mathlib.Core.Logic.{⊎-elim}
-use mathlib.Core.Bool.{Bool, true, false, _&&_}
+use mathlib.Core.Bool.{Bool, true, false, not, _&&_}
 use mathlib.Core.List.{List, [], _∷_, List·Memᴰ, List·Memᴰ·not-nil}
 use Prim.Native.Nat.{ℕ, _*_, _^_, _≤_}
 use native.Mathlib.Nat.{le-trans, mul-le-mul-right}
@@ -141,3 +142,22 @@ module _ (p : ℕ → Bool) (smaller : (n m : ℕ) → n ≤ m → p m ≡ true 
 pub bound-once : (S : Search) → shortestPaths S ≡ routesIf (keepsBound (S .limits) ((leastFrom (paths S)) .cost)) (cheapest (paths S))
 unfolding shortestPaths admissible
 bound-once S = cheapest-passing (keepsBound (S .limits)) (keepsBound-smaller (S .limits)) (paths S)
+
+-- no path is admissible exactly where there is none, or the least total doesn't keep the bound
+pub admissible-none : (S : Search) → isEmpty (admissible S) ≡ not ((leastFrom (paths S)) .reachable && keepsBound (S .limits) ((leastFrom (paths S)) .cost))
+unfolding admissible passing keep
+admissible-none S = go ((leastFrom (paths S)) .reachable) refl (keepsBound (S .limits) ((leastFrom (paths S)) .cost)) refl
+  where
+    kept : Route → Bool
+    kept r = keepsBound (S .limits) (r .total)
+
+    some : (qs : List Route) {q : Route} → List·Memᴰ q qs → isEmpty qs ≡ false
+    some [] m = absurd (List·Memᴰ·not-nil m)
+    some (x ∷ xs) m = refl
+
+    go
+        : (b : Bool) → (leastFrom (paths S)) .reachable ≡ b → (c : Bool) → keepsBound (S .limits) ((leastFrom (paths S)) .cost) ≡ c
+        → isEmpty (admissible S) ≡ not (b && c)
+    go true t true k = let s = leastFrom-some (paths S) t in some (keep kept (paths S)) (mem-keep kept (s .1) (ap (keepsBound (S .limits)) (s .2) ∙ k))
+    go true t false k = ap isEmpty (passing-none (keepsBound (S .limits)) (keepsBound-smaller (S .limits)) (paths S) k)
+    go false f c k = ap (λ (rs : List Route). isEmpty (keep kept rs)) (leastFrom-unreached (paths S) f)

@@ -11,12 +11,14 @@ use lib.ListN.{length, getD, drop, drop-of-length-le}
 use lib.Seq.{drop-cons}
 use lib.Dec.{eqb, eqb·zero-suc}
 use borrow.Author.Tests.{le-ltb, eq-eqb}
+use Rattle.model.specs.declared.Round.{Round}
 use Rattle.model.specs.Lists.{below}
 use Rattle.model.specs.Verdict.{refuseIf, _andThen_}
 use Rattle.model.specs.Sequence.{Stop, Reading}
-use Rattle.model.specs.Request.{Request, Accepted, searchOf}
+use Rattle.model.specs.Request.{Request, Accepted}
 use Rattle.model.specs.Path.{Route, paths, shortestPaths}
-use Rattle.model.specs.Answers.{plain3}
+use Rattle.model.specs.Rounds.{roundOf, searchOf}
+use Rattle.model.specs.Answers.{plain4}
 use Rattle.model.specs.Calls.{Outcome, nothing, found, roomVerdict, firstOf, answerPath, pathLength, firstInto, first, greaterThan, nextInto, next}
 use Rattle.model.specs.Series.{noRoute, refusal}
 use Rattle.laws.proofs.Lists.{keep-mem, mem-keep, keep-none, Sorted, sorted-keep}
@@ -27,13 +29,13 @@ use Rattle.laws.proofs.ShortestPathsExact.{Ascending, EachLong, Below, 
 
 -- ---- the first of a list of paths
 
-firstOf-number : (n : ℕ) (rs : List Route) → (0 ≡ n → ⊥) → ((firstOf n rs) .numbers .answer ≡ n) ↔ (rs ≡ [])
-firstOf-number n [] h = (λ e. refl, λ e. refl)
-firstOf-number n (p ∷ ps) h = (λ e. absurd (h e), λ e. absurd (List·Memᴰ·not-nil (subst (λ (l : List Route). List·Memᴰ p l) e (List·Memᴰ·head refl))))
+firstOf-number : (round : Round) (n : ℕ) (rs : List Route) → (0 ≡ n → ⊥) → ((firstOf round n rs) .numbers .answer ≡ n) ↔ (rs ≡ [])
+firstOf-number round n [] h = (λ e. refl, λ e. refl)
+firstOf-number round n (p ∷ ps) h = (λ e. absurd (h e), λ e. absurd (List·Memᴰ·not-nil (subst (λ (l : List Route). List·Memᴰ p l) e (List·Memᴰ·head refl))))
 
-firstOf-found : (n : ℕ) (rs : List Route) → 0 < length rs → firstOf n rs ≡ found (getD rs 0 noRoute)
-firstOf-found n [] h = absurd (not-suc-le-zero h)
-firstOf-found n (p ∷ ps) h = refl
+firstOf-found : (round : Round) (n : ℕ) (rs : List Route) → 0 < length rs → firstOf round n rs ≡ found round (getD rs 0 noRoute)
+firstOf-found round n [] h = absurd (not-suc-le-zero h)
+firstOf-found round n (p ∷ ps) h = refl
 
 -- ---- the paths greater than a list
 
@@ -56,15 +58,15 @@ module _ (listing : List Route) (given : List ℕ) where
 
   -- where there is one, the first of them is the least
   above-least
-      : Sorted Below listing
+      : (round : Round) → Sorted Below listing
       → (p : Route) → List·Memᴰ p listing → below given (p .addresses) ≡ true
-      → (q : Route) × LeastAbove listing given q × (firstOf 2 (greaterThan given listing) ≡ found q)
+      → (q : Route) × LeastAbove listing given q × (firstOf round 2 (greaterThan given listing) ≡ found round q)
   unfolding greaterThan
-  above-least s p m t = go (greaterThan given listing) refl
+  above-least round s p m t = go (greaterThan given listing) refl
     where
       go
           : (rs : List Route) → greaterThan given listing ≡ rs
-          → (q : Route) × LeastAbove listing given q × (firstOf 2 rs ≡ found q)
+          → (q : Route) × LeastAbove listing given q × (firstOf round 2 rs ≡ found round q)
       go [] e = absurd (List·Memᴰ·not-nil (subst (λ (l : List Route). List·Memᴰ p l) e (mem-keep above m t)))
       go (q ∷ qs) e =
           let k = keep-mem above listing (subst (λ (l : List Route). List·Memᴰ q l) (sym e) (List·Memᴰ·head refl)) in
@@ -96,7 +98,7 @@ greater-rest listing s i h =
 -- ---- the calls after the request's own checks
 
 module _ (r : Request) (sequence : List Stop) (accepted : Accepted r sequence) where
-  pub first-accepted : (room : ℕ) → first r room ≡ answerPath (roomVerdict (pathLength sequence) room) 1 (shortestPaths (searchOf r sequence))
+  pub first-accepted : (room : ℕ) → first r room ≡ answerPath (roomVerdict (pathLength sequence) room) (roundOf r sequence) 1 (shortestPaths (searchOf r sequence))
   unfolding first
   first-accepted room = ap (λ (x : Reading (List Stop)). firstInto r x room) accepted
 
@@ -105,6 +107,7 @@ module _ (r : Request) (sequence : List Stop) (accepted : Accepted r sequence) w
       → next r given room
       ≡ answerPath
       (refuseIf (not long) 33 0 andThen roomVerdict (pathLength sequence) room)
+      (roundOf r sequence)
       2
       (greaterThan given (shortestPaths (searchOf r sequence)))
   unfolding next
@@ -114,6 +117,7 @@ module _ (r : Request) (sequence : List Stop) (accepted : Accepted r sequence) w
       (λ (b : Bool).
       answerPath
       (refuseIf (not b) 33 0 andThen roomVerdict (pathLength sequence) room)
+      (roundOf r sequence)
       2
       (greaterThan given (shortestPaths (searchOf r sequence))))
       e
@@ -126,7 +130,7 @@ module _ (r : Request) (sequence : List Stop) (accepted : Accepted r sequence) w
   pub next-accepted
       : (given : List ℕ) → length given ≡ pathLength sequence
       → (room : ℕ)
-      → next r given room ≡ answerPath (roomVerdict (pathLength sequence) room) 2 (greaterThan given (shortestPaths (searchOf r sequence)))
+      → next r given room ≡ answerPath (roomVerdict (pathLength sequence) room) (roundOf r sequence) 2 (greaterThan given (shortestPaths (searchOf r sequence)))
   next-accepted given e room = next-tested given room true (eq-eqb (length given) (pathLength sequence) e)
 
   -- next given the listing's path i
@@ -135,39 +139,40 @@ module _ (r : Request) (sequence : List Stop) (accepted : Accepted r sequence) w
       → (i : ℕ) → i < length (shortestPaths (searchOf r sequence))
       → (room : ℕ)
       → next r ((getD (shortestPaths (searchOf r sequence)) i noRoute) .addresses) room
-      ≡ answerPath (roomVerdict (pathLength sequence) room) 2 (drop (suc i) (shortestPaths (searchOf r sequence)))
+      ≡ answerPath (roomVerdict (pathLength sequence) room) (roundOf r sequence) 2 (drop (suc i) (shortestPaths (searchOf r sequence)))
   next-after ascending long i h room =
       let S = searchOf r sequence in
       let p = getD (shortestPaths S) i noRoute in
       next-accepted (p .addresses) (shortest-long S (pathLength sequence) long p (getD-mem (shortestPaths S) i noRoute h)) room
-      ∙ ap (answerPath (roomVerdict (pathLength sequence) room) 2) (greater-rest (shortestPaths S) (shortest-ascending S ascending) i h)
+      ∙ ap (answerPath (roomVerdict (pathLength sequence) room) (roundOf r sequence) 2) (greater-rest (shortestPaths S) (shortest-ascending S ascending) i h)
 
 -- with enough capacity only the search is left
-enough : (needed room : ℕ) → needed ≤ room → (n : ℕ) (ps : List Route) → answerPath (roomVerdict needed room) n ps ≡ firstOf n ps
-enough needed room h n ps = ap (λ (b : Bool). answerPath (refuseIf b 34 0) n ps) (le-ltb room needed h)
+enough : (needed room : ℕ) → needed ≤ room → (round : Round) (n : ℕ) (ps : List Route) → answerPath (roomVerdict needed room) round n ps ≡ firstOf round n ps
+enough needed room h round n ps = ap (λ (b : Bool). answerPath (refuseIf b 34 0) round n ps) (le-ltb room needed h)
 
 -- ---- the laws
 
-pub record FirstExact (listing : List Route) (outcome : Outcome ℕ) : Type 0 where
+pub record FirstExact (round : Round) (listing : List Route) (outcome : Outcome ℕ) : Type 0 where
   -- 1 exactly when nothing is listed; then nothing else is answered or written
   pub number : (outcome .numbers .answer ≡ 1) ↔ (listing ≡ [])
-  pub none : listing ≡ [] → outcome ≡ nothing (plain3 1)
+  pub none : listing ≡ [] → outcome ≡ nothing (plain4 1)
   -- else the listing's path 0
-  pub path : 0 < length listing → outcome ≡ found (getD listing 0 noRoute)
+  pub path : 0 < length listing → outcome ≡ found round (getD listing 0 noRoute)
 
 pub first-exact
     : (r : Request) (sequence : List Stop) → Accepted r sequence
-    → (room : ℕ) → pathLength sequence ≤ room → FirstExact (shortestPaths (searchOf r sequence)) (first r room)
+    → (room : ℕ) → pathLength sequence ≤ room → FirstExact (roundOf r sequence) (shortestPaths (searchOf r sequence)) (first r room)
 first-exact r sequence accepted room h =
+    let round = roundOf r sequence in
     let listing = shortestPaths (searchOf r sequence) in
-    subst (FirstExact listing) (sym (first-accepted r sequence accepted room ∙ enough (pathLength sequence) room h 1 listing))
+    subst (FirstExact round listing) (sym (first-accepted r sequence accepted room ∙ enough (pathLength sequence) room h round 1 listing))
     (record {
-      number = firstOf-number 1 listing (λ (e : 0 ≡ 1). omega arith);
-      none = λ e. ap (firstOf 1) e;
-      path = firstOf-found 1 listing;
+      number = firstOf-number round 1 listing (λ (e : 0 ≡ 1). omega arith);
+      none = λ e. ap (firstOf round 1) e;
+      path = firstOf-found round 1 listing;
     })
 
-pub record NextExact (listing : List Route) (needed : ℕ) (outcome : List ℕ → Outcome ℕ) : Type 0 where
+pub record NextExact (round : Round) (listing : List Route) (needed : ℕ) (outcome : List ℕ → Outcome ℕ) : Type 0 where
   -- 2 exactly when no listed path is greater than the given list; then nothing else is answered or written
   pub number
       : (given : List ℕ) → length given ≡ needed
@@ -175,37 +180,38 @@ pub record NextExact (listing : List Route) (needed : ℕ) (outcome : List ℕ �
   pub none
       : (given : List ℕ) → length given ≡ needed
       → ((p : Route) → List·Memᴰ p listing → below given (p .addresses) ≡ false)
-      → outcome given ≡ nothing (plain3 2)
+      → outcome given ≡ nothing (plain4 2)
   -- else the least listed path greater than it
   pub path
       : (given : List ℕ) → length given ≡ needed
       → (p : Route) → List·Memᴰ p listing → below given (p .addresses) ≡ true
-      → (q : Route) × LeastAbove listing given q × (outcome given ≡ found q)
+      → (q : Route) × LeastAbove listing given q × (outcome given ≡ found round q)
   -- after the listing's path i its path i + 1, after its last path 2
-  pub after : (i : ℕ) → suc i < length listing → outcome ((getD listing i noRoute) .addresses) ≡ found (getD listing (suc i) noRoute)
-  pub end : (i : ℕ) → suc i ≡ length listing → outcome ((getD listing i noRoute) .addresses) ≡ nothing (plain3 2)
+  pub after : (i : ℕ) → suc i < length listing → outcome ((getD listing i noRoute) .addresses) ≡ found round (getD listing (suc i) noRoute)
+  pub end : (i : ℕ) → suc i ≡ length listing → outcome ((getD listing i noRoute) .addresses) ≡ nothing (plain4 2)
 
 pub next-exact
     : (r : Request) (sequence : List Stop) → Accepted r sequence
     → Ascending (paths (searchOf r sequence))
     → EachLong (pathLength sequence) (paths (searchOf r sequence))
     → (room : ℕ) → pathLength sequence ≤ room
-    → NextExact (shortestPaths (searchOf r sequence)) (pathLength sequence) (λ (given : List ℕ). next r given room)
+    → NextExact (roundOf r sequence) (shortestPaths (searchOf r sequence)) (pathLength sequence) (λ (given : List ℕ). next r given room)
 next-exact r sequence accepted ascending long room h =
+    let round = roundOf r sequence in
     let listing = shortestPaths (searchOf r sequence) in
     let order = ascending-routes listing (shortest-ascending (searchOf r sequence) ascending) in
-    let o : (given : List ℕ) → length given ≡ pathLength sequence → next r given room ≡ firstOf 2 (greaterThan given listing) =
-    λ given e. next-accepted r sequence accepted given e room ∙ enough (pathLength sequence) room h 2 (greaterThan given listing) in
-    let rest : (i : ℕ) → i < length listing → next r ((getD listing i noRoute) .addresses) room ≡ firstOf 2 (drop (suc i) listing) =
-    λ i l. next-after r sequence accepted ascending long i l room ∙ enough (pathLength sequence) room h 2 (drop (suc i) listing) in
+    let o : (given : List ℕ) → length given ≡ pathLength sequence → next r given room ≡ firstOf round 2 (greaterThan given listing) =
+    λ given e. next-accepted r sequence accepted given e room ∙ enough (pathLength sequence) room h round 2 (greaterThan given listing) in
+    let rest : (i : ℕ) → i < length listing → next r ((getD listing i noRoute) .addresses) room ≡ firstOf round 2 (drop (suc i) listing) =
+    λ i l. next-after r sequence accepted ascending long i l room ∙ enough (pathLength sequence) room h round 2 (drop (suc i) listing) in
     record {
       number = λ given e.
           subst
           (λ (x : Outcome ℕ). (x .numbers .answer ≡ 2) ↔ ((p : Route) → List·Memᴰ p listing → below given (p .addresses) ≡ false))
           (sym (o given e))
-          (Iff·trans (firstOf-number 2 (greaterThan given listing) (λ (z : 0 ≡ 2). omega arith)) (above-none listing given));
-      none = λ given e n. o given e ∙ ap (firstOf 2) ((above-none listing given) .1 n);
-      path = λ given e p m t. let l = above-least listing given order p m t in (l .0, l .1, o given e ∙ l .2);
-      after = λ i l. rest i (omega arith) ∙ ap (firstOf 2) (drop-cons listing (suc i) noRoute l);
-      end = λ i e. rest i (omega arith) ∙ ap (firstOf 2) (drop-of-length-le listing (le-of-eq (sym e)));
+          (Iff·trans (firstOf-number round 2 (greaterThan given listing) (λ (z : 0 ≡ 2). omega arith)) (above-none listing given));
+      none = λ given e n. o given e ∙ ap (firstOf round 2) ((above-none listing given) .1 n);
+      path = λ given e p m t. let l = above-least listing given round order p m t in (l .0, l .1, o given e ∙ l .2);
+      after = λ i l. rest i (omega arith) ∙ ap (firstOf round 2) (drop-cons listing (suc i) noRoute l);
+      end = λ i e. rest i (omega arith) ∙ ap (firstOf round 2) (drop-of-length-le listing (le-of-eq (sym e)));
     }

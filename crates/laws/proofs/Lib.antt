@@ -26,6 +26,12 @@ pub mod ReadingKeeps
 pub mod SequenceDomains
 pub mod AcceptedRequest
 pub mod AcceptedPaths
+pub mod RoundExact
+pub mod TallyMost
+pub mod Hits
+pub mod SameAnswers
+pub mod JoinedLists
+pub mod Lacking
 pub mod Least
 pub mod Reach
 pub mod TreeLeast

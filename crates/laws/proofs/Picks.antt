@@ -1,8 +1,8 @@
 -- How `keep`, `map` and `each` go together: tests one after the other, on what a function makes of each element, and before it. By recursion on the list.
 use mathlib.Core.Path.{_≡_, refl, _∙_, ap}
-use mathlib.Core.Bool.{Bool, true, false, _&&_}
+use mathlib.Core.Bool.{Bool, true, false, _&&_, _||_}
 use mathlib.Core.List.{List, [], _∷_, _++_, map, List·Memᴰ, List·Memᴰ·head, List·Memᴰ·tail}
-use Rattle.model.specs.Lists.{keepIf, keep, each}
+use Rattle.model.specs.Lists.{keepIf, keep, any, each}
 use Rattle.laws.proofs.Lists.{keep-append}
 
 module _ {A : Type 0} where
@@ -22,6 +22,19 @@ module _ {A : Type 0} where
           → keep p (keep q xs) ≡ keep (λ (y : A). q y && p y) xs
           → keep p (keepIf b x (keep q xs)) ≡ keepIf (b && p x) x (keep (λ (y : A). q y && p y) xs)
       go true r = ap (keepIf (p x) x) r
+      go false r = r
+
+  -- so are a test before `any` and its own
+  pub any-keep : (p q : A → Bool) (xs : List A) → any p (keep q xs) ≡ any (λ (x : A). q x && p x) xs
+  unfolding keep any
+  any-keep p q [] = refl
+  any-keep p q (x ∷ xs) = go (q x) (any-keep p q xs)
+    where
+      go
+          : (b : Bool)
+          → any p (keep q xs) ≡ any (λ (y : A). q y && p y) xs
+          → any p (keepIf b x (keep q xs)) ≡ (b && p x) || any (λ (y : A). q y && p y) xs
+      go true r = ap (λ (c : Bool). p x || c) r
       go false r = r
 
 module _ {A B : Type 0} where

@@ -11,12 +11,14 @@ use lib.Seq.{drop-cons}
 use lib.Dec.{eqb, ltb, eqb·suc-zero}
 use borrow.Author.Tests.{eqb-true, eqb-false}
 use Rattle.model.specs.declared.Refusal.{Refusal}
+use Rattle.model.specs.declared.Round.{Round}
 use Rattle.model.specs.Lists.{over}
 use Rattle.model.specs.Verdict.{refuseIf}
 use Rattle.model.specs.Sequence.{Stop, Reading, refused}
-use Rattle.model.specs.Request.{Request, Accepted, sequenceOf, searchOf}
+use Rattle.model.specs.Request.{Request, Accepted, sequenceOf}
 use Rattle.model.specs.Path.{Route, paths, shortestPaths}
-use Rattle.model.specs.Answers.{refused3}
+use Rattle.model.specs.Rounds.{roundOf, searchOf}
+use Rattle.model.specs.Answers.{refused4}
 use Rattle.model.specs.Calls.{Outcome, nothing, firstOf, answerPath, pathLength, firstInto, first, nextInto, next}
 use Rattle.model.specs.Series.{Kind, firstCall, nextCall, Call, Reply, replyTo, Entry, noRoute, bookFirst, bookNext, bookEntry, book, refusedCall, callOutcome, lastAfter, run}
 use Rattle.laws.proofs.ShortestPathsExact.{Ascending, EachLong}
@@ -36,13 +38,13 @@ at-most listing (suc i) last h = h .0
 abbrev Kept : List Route → List ℕ → Entry → Type 0
 Kept listing last e = At listing (e .after) (lastAfter (eqb (e .outcome .numbers .answer) 0) (e .outcome .written) last)
 
-module _ (listing : List Route) (p : ℕ) (last : List ℕ) (h : At listing p last) where
-  first-kept : (small empty : Bool) → eqb (length listing) 0 ≡ empty → Kept listing last (bookFirst small empty listing p)
+module _ (round : Round) (listing : List Route) (p : ℕ) (last : List ℕ) (h : At listing p last) where
+  first-kept : (small empty : Bool) → eqb (length listing) 0 ≡ empty → Kept listing last (bookFirst small empty round listing p)
   first-kept true empty e = h
   first-kept false true e = h
   first-kept false false e = let n = eqb-false (length listing) 0 e in (omega arith, refl)
 
-  next-kept : (start small end : Bool) → eqb p (length listing) ≡ end → Kept listing last (bookNext start small end listing p)
+  next-kept : (start small end : Bool) → eqb p (length listing) ≡ end → Kept listing last (bookNext start small end round listing p)
   next-kept true small end e = h
   next-kept false true end e = h
   next-kept false false true e = h
@@ -51,25 +53,25 @@ module _ (listing : List Route) (p : ℕ) (last : List ℕ) (h : At listing p la
       let l = at-most listing p last h in
       (omega arith, refl)
 
-  entry-kept : (needed : ℕ) (kind : Kind) (room : ℕ) → Kept listing last (bookEntry listing needed p kind room)
+  entry-kept : (needed : ℕ) (kind : Kind) (room : ℕ) → Kept listing last (bookEntry round listing needed p kind room)
   entry-kept needed firstCall room = first-kept (ltb room needed) (eqb (length listing) 0) refl
   entry-kept needed nextCall room = next-kept (eqb p 0) (ltb room needed) (eqb p (length listing)) refl
 
 -- ---- one call answers as the book's entry does
 
-first-entry : (small : Bool) (listing : List Route) (p : ℕ) → answerPath (refuseIf small 34 0) 1 listing ≡ (bookFirst small (eqb (length listing) 0) listing p) .outcome
-first-entry true listing p = refl
-first-entry false [] p = refl
-first-entry false (x ∷ xs) p = ap (λ (b : Bool). (bookFirst false b (x ∷ xs) p) .outcome) (sym (eqb·suc-zero (length xs)))
+first-entry : (round : Round) (small : Bool) (listing : List Route) (p : ℕ) → answerPath (refuseIf small 34 0) round 1 listing ≡ (bookFirst small (eqb (length listing) 0) round listing p) .outcome
+first-entry round true listing p = refl
+first-entry round false [] p = refl
+first-entry round false (x ∷ xs) p = ap (λ (b : Bool). (bookFirst false b round (x ∷ xs) p) .outcome) (sym (eqb·suc-zero (length xs)))
 
 next-entry
-    : (small end : Bool) (listing : List Route) (i : ℕ) → i < length listing → eqb (suc i) (length listing) ≡ end
-    → answerPath (refuseIf small 34 0) 2 (drop (suc i) listing) ≡ (bookNext false small end listing (suc i)) .outcome
-next-entry true end listing i h e = refl
-next-entry false true listing i h e = ap (firstOf 2) (drop-of-length-le listing (le-of-eq (sym (eqb-true (suc i) (length listing) e))))
-next-entry false false listing i h e =
+    : (round : Round) (small end : Bool) (listing : List Route) (i : ℕ) → i < length listing → eqb (suc i) (length listing) ≡ end
+    → answerPath (refuseIf small 34 0) round 2 (drop (suc i) listing) ≡ (bookNext false small end round listing (suc i)) .outcome
+next-entry round true end listing i h e = refl
+next-entry round false true listing i h e = ap (firstOf round 2) (drop-of-length-le listing (le-of-eq (sym (eqb-true (suc i) (length listing) e))))
+next-entry round false false listing i h e =
     let n = eqb-false (suc i) (length listing) e in
-    ap (firstOf 2) (drop-cons listing (suc i) noRoute (omega arith))
+    ap (firstOf round 2) (drop-cons listing (suc i) noRoute (omega arith))
 
 -- a call's reply, and the run after it
 run-call
@@ -86,30 +88,33 @@ module _ (r : Request) (sequence : List Stop) (accepted : Accepted r sequence)
     abbrev listing : List Route
     listing = shortestPaths (searchOf r sequence)
 
+    abbrev round : Round
+    round = roundOf r sequence
+
     call-entry
         : (p : ℕ) (last : List ℕ) → At listing p last
-        → (kind : Kind) (room : ℕ) → callOutcome r last kind room ≡ (bookEntry listing (pathLength sequence) p kind room) .outcome
-    call-entry p last h firstCall room = first-accepted r sequence accepted room ∙ first-entry (ltb room (pathLength sequence)) listing p
+        → (kind : Kind) (room : ℕ) → callOutcome r last kind room ≡ (bookEntry round listing (pathLength sequence) p kind room) .outcome
+    call-entry p last h firstCall room = first-accepted r sequence accepted room ∙ first-entry round (ltb room (pathLength sequence)) listing p
     call-entry zero last h nextCall room = ap (λ (l : List ℕ). next r l room) h ∙ next-unstarted r sequence accepted room
     call-entry (suc i) last h nextCall room =
         ap (λ (l : List ℕ). next r l room) (h .1)
         ∙ next-after r sequence accepted ascending long i (h .0) room
-        ∙ next-entry (ltb room (pathLength sequence)) (eqb (suc i) (length listing)) listing i (h .0) refl
+        ∙ next-entry round (ltb room (pathLength sequence)) (eqb (suc i) (length listing)) listing i (h .0) refl
         ∙ ap
-        (λ (b : Bool). (bookNext b (ltb room (pathLength sequence)) (eqb (suc i) (length listing)) listing (suc i)) .outcome)
+        (λ (b : Bool). (bookNext b (ltb room (pathLength sequence)) (eqb (suc i) (length listing)) round listing (suc i)) .outcome)
         (sym (eqb·suc-zero i))
 
-    run-book : (calls : List Call) (p : ℕ) (last : List ℕ) → At listing p last → run r last calls ≡ book listing (pathLength sequence) p calls
+    run-book : (calls : List Call) (p : ℕ) (last : List ℕ) → At listing p last → run r last calls ≡ book round listing (pathLength sequence) p calls
     unfolding run book
     run-book [] p last h = refl
     run-book (c ∷ cs) p last h =
         let room = length (c .buffer) in
-        let e = bookEntry listing (pathLength sequence) p (c .kind) room in
+        let e = bookEntry round listing (pathLength sequence) p (c .kind) room in
         run-call r last c cs (e .outcome) (call-entry p last h (c .kind) room)
         ∙ ap {B = List Reply}
         (λ (rest : List Reply). replyTo c (e .outcome) ∷ rest)
         (run-book cs (e .after) (lastAfter (eqb (e .outcome .numbers .answer) 0) (e .outcome .written) last)
-        (entry-kept listing p last h (pathLength sequence) (c .kind) room))
+        (entry-kept round listing p last h (pathLength sequence) (c .kind) room))
 
 -- ---- the laws
 
@@ -117,12 +122,12 @@ pub series-is-book
     : (r : Request) (sequence : List Stop) → Accepted r sequence
     → Ascending (paths (searchOf r sequence))
     → EachLong (pathLength sequence) (paths (searchOf r sequence))
-    → (calls : List Call) → run r [] calls ≡ book (shortestPaths (searchOf r sequence)) (pathLength sequence) 0 calls
+    → (calls : List Call) → run r [] calls ≡ book (roundOf r sequence) (shortestPaths (searchOf r sequence)) (pathLength sequence) 0 calls
 series-is-book r sequence accepted ascending long calls = run-book r sequence accepted ascending long calls 0 [] refl
 
 refused-call
     : (r : Request) (x : Refusal) → sequenceOf r ≡ refused x
-    → (last : List ℕ) (kind : Kind) (room : ℕ) → callOutcome r last kind room ≡ nothing (refused3 x)
+    → (last : List ℕ) (kind : Kind) (room : ℕ) → callOutcome r last kind room ≡ nothing (refused4 x)
 unfolding first next
 refused-call r x e last firstCall room = ap (λ (y : Reading (List Stop)). firstInto r y room) e
 refused-call r x e last nextCall room = ap (λ (y : Reading (List Stop)). nextInto r y last room) e
@@ -134,7 +139,7 @@ pub series-refused
 unfolding run over
 series-refused r x e last [] = refl
 series-refused r x e last (c ∷ cs) =
-    run-call r last c cs (nothing (refused3 x)) (refused-call r x e last (c .kind) (length (c .buffer)))
+    run-call r last c cs (nothing (refused4 x)) (refused-call r x e last (c .kind) (length (c .buffer)))
     ∙ ap {B = List Reply}
     (λ (rest : List Reply). refusedCall x c ∷ rest)
     (series-refused r x e (lastAfter (eqb (x .number) 0) [] last) cs)

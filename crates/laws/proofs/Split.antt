@@ -10,10 +10,11 @@ use native.Mathlib.Omega.{arith}
 use lib.Dec.{eqb}
 use borrow.Author.Tests.{eqb-true, eqb-false, eq-eqb, ne-eqb}
 use Rattle.model.specs.declared.Hop.{Hop}
+use Rattle.model.specs.declared.Round.{Round}
 use Rattle.model.specs.Lists.{isEmpty, keep, all, each}
 use Rattle.model.specs.Request.{Search}
 use Rattle.model.specs.Path.{Leg, legs, keepsBound, allowed, Route, extended, leaves, hopsFrom, routesIf, suffixes, paths, cheapest, shortestPaths}
-use Rattle.model.specs.Answers.{plain3}
+use Rattle.model.specs.Answers.{plain4}
 use Rattle.model.specs.Calls.{nothing, found, firstOf}
 use Rattle.laws.proofs.Tests.{decide, clash, and-both, both-and}
 use Rattle.laws.proofs.Lists.{keep-mem, keep-agree, keep-none, mem-map, mem-each}
@@ -294,10 +295,10 @@ first-shortest S =
     ∙ ap (optionIf kept) (first-split S (legs (S .sequence)) 0 (S .source))
 
 -- what first and next answer goes by the first path alone
-pub answer-some : (number : ℕ) (ps : List Route) {p : Route} → head? ps ≡ some p → firstOf number ps ≡ found p
-answer-some number [] {p} e = absurd (Option·none-ne-some p e)
-answer-some number (q ∷ ps) {p} e = ap found (Option·some-injective q p e)
+pub answer-some : (round : Round) (number : ℕ) (ps : List Route) {p : Route} → head? ps ≡ some p → firstOf round number ps ≡ found round p
+answer-some round number [] {p} e = absurd (Option·none-ne-some p e)
+answer-some round number (q ∷ ps) {p} e = ap (found round) (Option·some-injective q p e)
 
-pub answer-none : (number : ℕ) (ps : List Route) → head? ps ≡ none → firstOf number ps ≡ nothing (plain3 number)
-answer-none number [] e = refl
-answer-none number (q ∷ ps) e = absurd (Option·some-ne-none q e)
+pub answer-none : (round : Round) (number : ℕ) (ps : List Route) → head? ps ≡ none → firstOf round number ps ≡ nothing (plain4 number)
+answer-none round number [] e = refl
+answer-none round number (q ∷ ps) e = absurd (Option·some-ne-none q e)

@@ -35,6 +35,15 @@ pub both-and : (a b : Bool) → a ≡ true → b ≡ true → (a && b) ≡ true
 both-and true b p q = q
 both-and false b p q = absurd (false≢true p)
 
+-- a second test that is decided
+pub and-none : (b : Bool) → false ≡ b && false
+and-none true = refl
+and-none false = refl
+
+pub and-all : (b : Bool) → b ≡ b && true
+and-all true = refl
+and-all false = refl
+
 pub and-false : (a b : Bool) → (a && b) ≡ false → a ≡ true → b ≡ false
 and-false true b e p = e
 and-false false b e p = absurd (false≢true p)

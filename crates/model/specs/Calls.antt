@@ -9,6 +9,7 @@ use lib.Dec.{eqb, ltb}
 use lib.Ieee.{binary32, toBits}
 use Rattle.model.specs.declared.Refusal.{Refusal}
 use Rattle.model.specs.declared.Domain.{Domain}
+use Rattle.model.specs.declared.Round.{Round}
 use Rattle.model.specs.declared.Verdict.{Verdict}
 use Rattle.model.specs.declared.Verdict.the-variants.{Pass, Refuse}
 use Rattle.model.specs.declared.ListKind.the-variants.{Include}
@@ -20,10 +21,11 @@ use Rattle.model.specs.Subobject.{formVerdict}
 use Rattle.model.specs.Sequence.{Stop, Reading, refused, good, meaning}
 use Rattle.model.specs.WrittenList.{written, stops, unwritable}
 use Rattle.model.specs.Floats.{floatOf}
-use Rattle.model.specs.Request.{Request, Search, ingressVerdict, sizeVerdict, provided, sequenceOf, searchOf}
+use Rattle.model.specs.Request.{Request, Search, ingressVerdict, sizeVerdict, provided, sequenceOf}
 use Rattle.model.specs.Path.{Route, shortestPaths}
 use Rattle.model.specs.Tree.{tree, tally}
-use Rattle.model.specs.Answers.{Numbers, refused1, refused2, refused3, done2, done3, plain3}
+use Rattle.model.specs.Rounds.{roundOf, searchOf, overRounds}
+use Rattle.model.specs.Answers.{Numbers, refused1, refused2, refused4, done2, done4, plain4}
 
 -- the numbers answered, and the elements written
 pub record Outcome (A : Type 0) : Type 0 where
@@ -93,41 +95,42 @@ writeList profile indexes marks nodes room =
     andThen roomVerdict (length bytes) room)
     bytes
 
--- ---- tree: the request's checks, then the capacity for every entry
+-- ---- tree: the request's checks, then the capacity for every entry; the tree of the round that applies, though the bound isn't applied to its entries
 
-abbrev pub answerTree : Verdict → Search → Outcome TreeEntry
-answerTree (Refuse r) S = nothing (refused3 r)
-answerTree Pass S = record { numbers = done3 (length (tree S)) (tally S); written = tree S }
+abbrev pub answerTree : Verdict → Round → Search → Outcome TreeEntry
+answerTree (Refuse r) x S = nothing (refused4 r)
+answerTree Pass x S = record { numbers = done4 (length (tree S)) (overRounds x (tally S)) x; written = tree S }
 
 abbrev pub treeInto : Request → Reading (List Stop) → ℕ → Outcome TreeEntry
-treeInto r (refused x) room = nothing (refused3 x)
-treeInto r (good sequence) room = answerTree (roomVerdict (length (tree (searchOf r sequence))) room) (searchOf r sequence)
+treeInto r (refused x) room = nothing (refused4 x)
+treeInto r (good sequence) room =
+    answerTree (roomVerdict (length (tree (searchOf r sequence))) room) (roundOf r sequence) (searchOf r sequence)
 
 unfoldable pub buildTree : Request → ℕ → Outcome TreeEntry
 buildTree r room = treeInto r (sequenceOf r) room
 
--- ---- first and next: the request's checks, for next 33, then 34, then the search
+-- ---- first and next: the request's checks, for next 33, then 34, then the search of the round that applies
 
--- a path: its addresses, and its total as a whole number and as the float of exactly that value
-abbrev pub found : Route → Outcome ℕ
-found p = record { numbers = done3 (p .total) (toBits binary32 (floatOf (p .total))); written = p .addresses }
+-- a path of a round: its addresses, and its total as a whole number and as the float of exactly that value
+abbrev pub found : Round → Route → Outcome ℕ
+found x p = record { numbers = done4 (p .total) (toBits binary32 (floatOf (p .total))) x; written = p .addresses }
 
 -- the first of the paths; where there is none, the number 1 or 2
-abbrev pub firstOf : ℕ → List Route → Outcome ℕ
-firstOf none-number [] = nothing (plain3 none-number)
-firstOf none-number (p ∷ ps) = found p
+abbrev pub firstOf : Round → ℕ → List Route → Outcome ℕ
+firstOf x none-number [] = nothing (plain4 none-number)
+firstOf x none-number (p ∷ ps) = found x p
 
-abbrev pub answerPath : Verdict → ℕ → List Route → Outcome ℕ
-answerPath (Refuse r) none-number ps = nothing (refused3 r)
-answerPath Pass none-number ps = firstOf none-number ps
+abbrev pub answerPath : Verdict → Round → ℕ → List Route → Outcome ℕ
+answerPath (Refuse r) x none-number ps = nothing (refused4 r)
+answerPath Pass x none-number ps = firstOf x none-number ps
 
 -- a path of the sequence has k + 2 addresses
 abbrev pub pathLength : List Stop → ℕ
 pathLength sequence = suc (length sequence)
 
 abbrev pub firstInto : Request → Reading (List Stop) → ℕ → Outcome ℕ
-firstInto r (refused x) room = nothing (refused3 x)
-firstInto r (good sequence) room = answerPath (roomVerdict (pathLength sequence) room) 1 (shortestPaths (searchOf r sequence))
+firstInto r (refused x) room = nothing (refused4 x)
+firstInto r (good sequence) room = answerPath (roomVerdict (pathLength sequence) room) (roundOf r sequence) 1 (shortestPaths (searchOf r sequence))
 
 unfoldable pub first : Request → ℕ → Outcome ℕ
 first r room = firstInto r (sequenceOf r) room
@@ -137,10 +140,11 @@ unfoldable pub greaterThan : List ℕ → List Route → List Route
 greaterThan given ps = keep (λ (p : Route). below given (p .addresses)) ps
 
 abbrev pub nextInto : Request → Reading (List Stop) → List ℕ → ℕ → Outcome ℕ
-nextInto r (refused x) given room = nothing (refused3 x)
+nextInto r (refused x) given room = nothing (refused4 x)
 nextInto r (good sequence) given room =
     answerPath
     (refuseIf (not (eqb (length given) (pathLength sequence))) 33 0 andThen roomVerdict (pathLength sequence) room)
+    (roundOf r sequence)
     2
     (greaterThan given (shortestPaths (searchOf r sequence)))
 

@@ -1,16 +1,28 @@
--- What an exclude list takes away: document 01, "Exclude list". Each exclusion keeps its X bit (`top`); set counts as clear.
+-- What an exclude list takes away, and in which round of a request: document 01, "Exclude list", and document 02, request [1]. An exclusion's X bit (`top`)
+-- says that it is only desired: it may be dropped where no other path meets the constraints (RFC 5521).
 use Prim.Native.Nat.{ℕ, _-_, _/_, _^_}
-use mathlib.Core.Bool.{Bool, true, false}
+use mathlib.Core.Bool.{Bool, true, false, not}
 use mathlib.Core.List.{List}
 use lib.Dec.{eqb}
 use Rattle.model.specs.declared.Domain.{Domain}
-use Rattle.model.specs.Lists.{any}
+use Rattle.model.specs.declared.Round.{Round}
+use Rattle.model.specs.declared.Round.the-variants.{First, Second}
+use Rattle.model.specs.Lists.{any, keep}
 use Rattle.model.specs.Subobject.{Named, prefix, system, area, Subobject}
 use Rattle.model.specs.Sequence.{hasArea}
 
--- the exclusions that count, of those an exclude list holds: all, whatever their X bit
-abbrev pub inForce : List Subobject → List Subobject
-inForce exclusions = exclusions
+-- in the first round every exclusion counts, whatever its X bit, in the second those of X clear
+abbrev pub counts : Round → Bool → Bool
+counts First top = true
+counts Second top = not top
+
+-- the exclusions in force in a round, of those that an exclude list holds
+unfoldable pub inForce : Round → List Subobject → List Subobject
+inForce x exclusions = keep (λ (s : Subobject). counts x (s .top)) exclusions
+
+-- some exclusion has X set, whether or not it takes anything away
+unfoldable pub someDesired : List Subobject → Bool
+someDesired exclusions = any (λ (s : Subobject). s .top) exclusions
 
 -- an address is inside a prefix: the bits before the prefix length agree, those after it are ignored
 abbrev pub inPrefix : ℕ → ℕ → ℕ → Bool

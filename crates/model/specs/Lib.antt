@@ -1,4 +1,4 @@
--- The definitions of document 01, a module to a section. Each definition has beside it the rule that it states.
+-- The definitions of document 01, a module to a section, and of document 02's requests that are built. Each definition has beside it the rule that it states.
 pub mod Lists
 pub mod Bytes
 pub mod Verdict
@@ -13,6 +13,7 @@ pub mod Request
 pub mod Path
 pub mod Tree
 pub mod Answers
+pub mod Rounds
 pub mod Calls
 pub mod Series
 pub mod WorkedCases

@@ -1,4 +1,4 @@
--- What a request holds, its checks 20 to 22 and those of its lists in document 01's order, and what a search needs of an accepted one.
+-- What a request holds, its checks 20 to 22 and those of its lists in document 01's order, and what a search needs of an accepted one in a round.
 use Prim.Native.Nat.{ℕ}
 use mathlib.Core.Path.{_≡_}
 use mathlib.Core.Bool.{Bool, not, _&&_}
@@ -8,6 +8,7 @@ use lib.Dec.{leb, ltb}
 use Rattle.model.specs.declared.Domain.{Domain}
 use Rattle.model.specs.declared.Hop.{Hop}
 use Rattle.model.specs.declared.Limits.{Limits}
+use Rattle.model.specs.declared.Round.{Round}
 use Rattle.model.specs.declared.ListKind.the-variants.{Include, Exclude}
 use Rattle.model.specs.declared.Verdict.{Verdict}
 use Rattle.model.specs.declared.Verdict.the-variants.{Pass, Refuse}
@@ -81,13 +82,14 @@ pub record Search : Type 0 where
   pub destination : ℕ
   pub limits : Limits
 
-unfoldable pub searchOf : Request → List Stop → Search
-searchOf r sequence =
+-- the search that a request asks for in a round, with the exclusions in force then
+unfoldable pub searchIn : Round → Request → List Stop → Search
+searchIn x r sequence =
     record {
       domains = domains (r .profile);
       hops = hops (layoutOf r) (r .profile);
       sequence = sequence;
-      exclusions = inForce (subobjects (r .exclude));
+      exclusions = inForce x (subobjects (r .exclude));
       source = r .source;
       destination = r .destination;
       limits = r .limits;

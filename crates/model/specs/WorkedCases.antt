@@ -1,5 +1,6 @@
 -- Profile W, the second profile of document 01's examples, and every starred case of its section "Profile W and what it gives": one table of rows
--- (call, inputs, the whole outcome) and one theorem, that each row holds, computed from the bytes up.
+-- (call, inputs, the whole outcome); a second table with cases of document 02's request [1] on W, worked out by hand; and one theorem, that each row of
+-- both holds, computed from the bytes up.
 use Prim.Native.Nat.{ℕ, zero, suc, _+_, _-_, _*_, _/_, _%_, _^_}
 use mathlib.Core.Path.{_≡_, refl}
 use mathlib.Core.Bool.{Bool, true, false}
@@ -18,11 +19,12 @@ use Rattle.model.specs.Profile as Profile
 use Rattle.model.specs.Subobject as Subobject
 use Rattle.model.specs.Sequence.{Stop, Reading, refused, good, ofSystem, ofArea, enter, name, readOne, readAll, meaning}
 use Rattle.model.specs.WrittenList.{writtenFrom, written, stops, unwritable}
-use Rattle.model.specs.Exclusion.{excludedDomain, excludedNode}
+use Rattle.model.specs.Exclusion.{inForce, someDesired, excludedDomain, excludedNode}
 use Rattle.model.specs.Floats.{units, inRange, atLeast, atMost, floatOf}
-use Rattle.model.specs.Request.{Request, requestVerdict, sequenceOf, searchOf}
+use Rattle.model.specs.Request.{Request, requestVerdict, sequenceOf, searchIn}
 use Rattle.model.specs.Path as Path
 use Rattle.model.specs.Tree as Tree
+use Rattle.model.specs.Rounds.{roundOf, searchOf}
 use Rattle.model.specs.Answers.{Numbers}
 use Rattle.model.specs.Calls.{Outcome, pathLength, readingOf, readInclude, writeList, buildTree, first, greaterThan, next}
 use Rattle.model.specs.Series.{Call, Reply, firstCall, nextCall, book, run}
@@ -88,8 +90,16 @@ throughU = 0x20 ∷ 0x04 ∷ 0xfb ∷ 0xf1 ∷ 0x01 ∷ 0x08 ∷ 0xc0 ∷ 0x00 �
 back : List ℕ
 back = 0x05 ∷ 0x08 ∷ 0x00 ∷ 0x00 ∷ 0x00 ∷ 0x00 ∷ 0xfb ∷ 0xf1 ∷ 0x05 ∷ 0x08 ∷ 0x00 ∷ 0x00 ∷ 0x00 ∷ 0x00 ∷ 0xfb ∷ 0xf0 ∷ []
 
-withoutQ : List ℕ
-withoutQ = 0x01 ∷ 0x08 ∷ 0xc0 ∷ 0x00 ∷ 0x02 ∷ 0x0c ∷ 0x20 ∷ 0x01 ∷ []
+-- exclusions of one node, with X clear and with X set
+without : ℕ → List ℕ
+without last = 0x01 ∷ 0x08 ∷ 0xc0 ∷ 0x00 ∷ 0x02 ∷ last ∷ 0x20 ∷ 0x01 ∷ []
+
+ratherWithout : ℕ → List ℕ
+ratherWithout last = 0x81 ∷ 0x08 ∷ 0xc0 ∷ 0x00 ∷ 0x02 ∷ last ∷ 0x20 ∷ 0x01 ∷ []
+
+-- AS 64511, which W lacks, with X set
+ratherWithout64511 : List ℕ
+ratherWithout64511 = 0xa0 ∷ 0x04 ∷ 0xfb ∷ 0xff ∷ []
 
 plain : Limits
 plain = record { bandwidth = ofBits binary32 0x42c80000; bound = ofBits binary32 0; bounded = false }
@@ -136,7 +146,7 @@ pub data Result : Type 0 where
 -- what the reference series has for an accepted request
 bookOf : Request → Reading (List Stop) → List Call → List Reply
 bookOf r (refused x) calls = []
-bookOf r (good sequence) calls = book (Path.shortestPaths (searchOf r sequence)) (pathLength sequence) 0 calls
+bookOf r (good sequence) calls = book (roundOf r sequence) (Path.shortestPaths (searchOf r sequence)) (pathLength sequence) 0 calls
 
 pub outcome : Case → Result
 outcome (reading profile ingress list room) = stopsRead (readInclude profile ingress list room)
@@ -161,12 +171,16 @@ through d = record { domain = d; pin = none }
 at : ℕ → ℕ → ℕ → TreeEntry
 at level node cost = record { level = level; address = record { 0 = node }; reachable = true; cost = cost }
 
--- a path of total 14, whose float has the bits 41600000
-costs14 : List ℕ → Outcome ℕ
-costs14 p = record { numbers = numbers 0 (0 ∷ 14 ∷ 0x41600000 ∷ []); written = p }
+cut : ℕ → ℕ → TreeEntry
+cut level node = record { level = level; address = record { 0 = node }; reachable = false; cost = 0 }
 
-treeW : Outcome TreeEntry
-treeW = record { numbers = numbers 0 (0 ∷ 5 ∷ 8 ∷ []); written = at 0 S 14 ∷ at 1 P 4 ∷ at 1 Q 11 ∷ at 2 T 2 ∷ at 2 U 3 ∷ [] }
+-- a path of total 14, whose float has the bits 41600000, found in the first round
+costs14 : List ℕ → Outcome ℕ
+costs14 p = record { numbers = numbers 0 (0 ∷ 14 ∷ 0x41600000 ∷ 1 ∷ []); written = p }
+
+-- W's tree with this tally and round
+treeW : ℕ → ℕ → Outcome TreeEntry
+treeW hops round = record { numbers = numbers 0 (0 ∷ 5 ∷ hops ∷ round ∷ []); written = at 0 S 14 ∷ at 1 P 4 ∷ at 1 Q 11 ∷ at 2 T 2 ∷ at 2 U 3 ∷ [] }
 
 -- a first and then nexts, each with five places to write to
 calls : ℕ → List Call
@@ -176,12 +190,18 @@ calls n = record { kind = firstCall; buffer = 7 ∷ 7 ∷ 7 ∷ 7 ∷ 7 ∷ [] }
     nexts zero = []
     nexts (suc n) = record { kind = nextCall; buffer = 7 ∷ 7 ∷ 7 ∷ 7 ∷ 7 ∷ [] } ∷ nexts n
 
--- a path of total 14 in the buffer, the rest of which is untouched; the end, and no path, with the buffer as it was
+-- a path of total 14 in the buffer, the rest of which is untouched, found in a round; the end, and no path, with the buffer as it was
+givesIn : ℕ → List ℕ → Reply
+givesIn round p = record { numbers = numbers 0 (0 ∷ 14 ∷ 0x41600000 ∷ round ∷ []); buffer = p ++ (7 ∷ []) }
+
 gives : List ℕ → Reply
-gives p = record { numbers = numbers 0 (0 ∷ 14 ∷ 0x41600000 ∷ []); buffer = p ++ (7 ∷ []) }
+gives p = givesIn 1 p
 
 ends : Reply
-ends = record { numbers = numbers 2 (0 ∷ 0 ∷ 0 ∷ []); buffer = 7 ∷ 7 ∷ 7 ∷ 7 ∷ 7 ∷ [] }
+ends = record { numbers = numbers 2 (0 ∷ 0 ∷ 0 ∷ 0 ∷ []); buffer = 7 ∷ 7 ∷ 7 ∷ 7 ∷ 7 ∷ [] }
+
+none-there : Reply
+none-there = record { numbers = numbers 1 (0 ∷ 0 ∷ 0 ∷ 0 ∷ []); buffer = 7 ∷ 7 ∷ 7 ∷ 7 ∷ 7 ∷ [] }
 
 SPUZ : List ℕ
 SPUZ = S ∷ P ∷ U ∷ Z ∷ []
@@ -199,18 +219,18 @@ three : Outcome Stop
 three = record { numbers = numbers 0 (0 ∷ 3 ∷ []); written = through 0 ∷ through 1 ∷ through 2 ∷ [] }
 
 no-path : Outcome ℕ
-no-path = record { numbers = numbers 1 (0 ∷ 0 ∷ 0 ∷ []); written = [] }
+no-path = record { numbers = numbers 1 (0 ∷ 0 ∷ 0 ∷ 0 ∷ []); written = [] }
 
 row : Case → Result → Row
 row c x = record { case = c; expected = x }
 
-pub table : List Row
-table =
+pub starred : List Row
+starred =
     -- the include list's tree, and the same of its longer form
-    row (building (onW toEnd [] plain) 5) (entriesBuilt treeW)
+    row (building (onW toEnd [] plain) 5) (entriesBuilt (treeW 8 1))
     ∷ row (reading profileW 0 toEnd 3) (stopsRead three)
     ∷ row (reading profileW 0 toEnd5 3) (stopsRead three)
-    ∷ row (building (onW toEnd5 [] plain) 5) (entriesBuilt treeW)
+    ∷ row (building (onW toEnd5 [] plain) 5) (entriesBuilt (treeW 8 1))
     -- the three paths, then the end
     ∷ row (series (onW toEnd [] plain) (calls 3)) (replies (gives SPUZ ∷ gives SQTZ ∷ gives SQUZ ∷ ends ∷ []))
     ∷ row (recorded (onW toEnd [] plain) (calls 3)) (replies (gives SPUZ ∷ gives SQTZ ∷ gives SQUZ ∷ ends ∷ []))
@@ -222,12 +242,12 @@ table =
     -- bandwidth just above 100.0
     ∷ row (series (onW toEnd [] above100) (calls 2)) (replies (gives SPUZ ∷ gives SQTZ ∷ ends ∷ []))
     -- Q excluded
-    ∷ row (series (onW toEnd withoutQ plain) (calls 1)) (replies (gives SPUZ ∷ ends ∷ []))
+    ∷ row (series (onW toEnd (without 0x0c) plain) (calls 1)) (replies (gives SPUZ ∷ ends ∷ []))
     -- U pinned before 64498
     ∷ row (series (onW throughU [] plain) (calls 2)) (replies (gives SPUZ ∷ gives SQUZ ∷ ends ∷ []))
     -- the empty include list
     ∷ row (starting (onW [] [] plain) 2) (path no-path)
-    ∷ row (building (onW [] [] plain) 1) (entriesBuilt (record { numbers = numbers 0 (0 ∷ 1 ∷ 0 ∷ []); written = record { level = 0; address = record { 0 = S }; reachable = false; cost = 0 } ∷ [] }))
+    ∷ row (building (onW [] [] plain) 1) (entriesBuilt (record { numbers = numbers 0 (0 ∷ 1 ∷ 0 ∷ 1 ∷ []); written = cut 0 S ∷ [] }))
     -- 64496 comes back
     ∷ row (reading profileW 0 back 3) (stopsRead (record { numbers = numbers 30 (8 ∷ 0 ∷ []); written = [] }))
     -- one sequence, read in two ways and written in one; 64501 alone
@@ -237,7 +257,33 @@ table =
     ∷ row (reading profileOspf 0 alone 3) (stopsRead (record { numbers = numbers 29 (0 ∷ 0 ∷ []); written = [] }))
     ∷ []
 
+-- document 02's request [1] on W
+pub desired : List Row
+desired =
+    -- Q rather not: the first round has SPUZ
+    row (series (onW toEnd (ratherWithout 0x0c) plain) (calls 1)) (replies (gives SPUZ ∷ ends ∷ []))
+    -- neither P nor Q if it can be helped: it can't, so both may be used, and the tally adds both rounds
+    ∷ row (series (onW toEnd (ratherWithout 0x0b ++ ratherWithout 0x0c) plain) (calls 3)) (replies (givesIn 2 SPUZ ∷ givesIn 2 SQTZ ∷ givesIn 2 SQUZ ∷ ends ∷ []))
+    ∷ row (recorded (onW toEnd (ratherWithout 0x0b ++ ratherWithout 0x0c) plain) (calls 3)) (replies (givesIn 2 SPUZ ∷ givesIn 2 SQTZ ∷ givesIn 2 SQUZ ∷ ends ∷ []))
+    ∷ row (building (onW toEnd (ratherWithout 0x0b ++ ratherWithout 0x0c) plain) 5) (entriesBuilt (treeW 16 2))
+    -- without P, and Q rather not: the second round keeps the exclusion of P
+    ∷ row (series (onW toEnd (without 0x0b ++ ratherWithout 0x0c) plain) (calls 2)) (replies (givesIn 2 SQTZ ∷ givesIn 2 SQUZ ∷ ends ∷ []))
+    -- without P and without Q: one round, no path
+    ∷ row (series (onW toEnd (without 0x0b ++ without 0x0c) plain) (calls 0)) (replies (none-there ∷ []))
+    ∷ row (building (onW toEnd (without 0x0b ++ without 0x0c) plain) 5)
+    (entriesBuilt (record { numbers = numbers 0 (0 ∷ 5 ∷ 8 ∷ 1 ∷ []); written = cut 0 S ∷ cut 1 P ∷ cut 1 Q ∷ at 2 T 2 ∷ at 2 U 3 ∷ [] }))
+    -- without Q, and U rather not: the first round has only SPTZ, of total 15, which a bound of 14.0 rules out
+    ∷ row (series (onW toEnd (without 0x0c ++ ratherWithout 0x16) (bounded 0x41600000)) (calls 1)) (replies (givesIn 2 SPUZ ∷ ends ∷ []))
+    -- what W lacks, rather not: nothing changes but, where there is no admissible path, round and tally of the tree
+    ∷ row (building (onW toEnd ratherWithout64511 plain) 5) (entriesBuilt (treeW 8 1))
+    ∷ row (building (onW toEnd ratherWithout64511 (bounded 0x41500000)) 5) (entriesBuilt (treeW 16 2))
+    ∷ row (starting (onW toEnd ratherWithout64511 (bounded 0x41500000)) 4) (path no-path)
+    ∷ []
+
+pub table : List Row
+table = starred ++ desired
+
 -- every row holds
 pub worked-cases : map (λ (r : Row). outcome (r .case)) table ≡ map (λ (r : Row). r .expected) table
-unfolding profileW profileOspf toEnd toEnd5 throughU back withoutQ plain bounded above100 onW short whole alone bookOf outcome numbers through at costs14 treeW calls gives ends SPUZ SPTZ SQTZ SQUZ three no-path row table countFrom keep all any each among allDifferent sum least same below insert different over number bytesOf allZero inTurn inRanges misplaced Profile.headerWrong Profile.countsWrong Profile.lengthWrong Profile.headerVerdict Profile.domainAt Profile.domains Profile.areaLengthFits Profile.domainMalformed Profile.domainMisordered Profile.domainVerdict Profile.hopAt Profile.hops Profile.hopMalformed Profile.hopMisordered Profile.hopVerdict Profile.entryNodes Profile.crowded Profile.crowdedVerdict Profile.profileVerdict Subobject.known Subobject.lengthFits Subobject.subobjectVerdict Subobject.namedAt Subobject.formFrom Subobject.formVerdict Subobject.subobjectsFrom Subobject.subobjects ofSystem ofArea enter name readOne readAll meaning writtenFrom written stops unwritable excludedDomain excludedNode units inRange atLeast atMost floatOf requestVerdict sequenceOf searchOf Path.legs Path.keepsBound Path.allowed Path.hopsFrom Path.suffixes Path.paths Path.admissible Path.cheapest Path.shortestPaths Tree.entriesAt Tree.entry Tree.tree Tree.tally readingOf readInclude writeList buildTree first greaterThan next book run ofBits toBits ofFields odd size span climb ofInt round isNan Ieee.units trailingZeros
+unfolding profileW profileOspf toEnd toEnd5 throughU back without ratherWithout ratherWithout64511 plain bounded above100 onW short whole alone bookOf outcome numbers through at cut costs14 treeW calls givesIn gives ends none-there SPUZ SPTZ SQTZ SQUZ three no-path row starred desired table countFrom keep all any each among allDifferent sum least same below insert different over number bytesOf allZero inTurn inRanges misplaced Profile.headerWrong Profile.countsWrong Profile.lengthWrong Profile.headerVerdict Profile.domainAt Profile.domains Profile.areaLengthFits Profile.domainMalformed Profile.domainMisordered Profile.domainVerdict Profile.hopAt Profile.hops Profile.hopMalformed Profile.hopMisordered Profile.hopVerdict Profile.entryNodes Profile.crowded Profile.crowdedVerdict Profile.profileVerdict Subobject.known Subobject.lengthFits Subobject.subobjectVerdict Subobject.namedAt Subobject.formFrom Subobject.formVerdict Subobject.subobjectsFrom Subobject.subobjects ofSystem ofArea enter name readOne readAll meaning writtenFrom written stops unwritable inForce someDesired excludedDomain excludedNode units inRange atLeast atMost floatOf requestVerdict sequenceOf searchIn roundOf searchOf Path.legs Path.keepsBound Path.allowed Path.hopsFrom Path.suffixes Path.paths Path.admissible Path.cheapest Path.shortestPaths Tree.entriesAt Tree.entry Tree.tree Tree.tally readingOf readInclude writeList buildTree first greaterThan next book run ofBits toBits ofFields odd size span climb ofInt round isNan Ieee.units trailingZeros
 worked-cases = refl

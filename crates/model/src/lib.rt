@@ -50,6 +50,13 @@ pub enum ListKind {
     Exclude,
 }
 
+// Which search for paths a call's answer comes from: the first, with every exclusion, or, where that finds no admissible path and some exclusion
+// is only desired (its X bit is set), the second, without those.
+pub enum Round {
+    First,
+    Second,
+}
+
 // One entry of the tree: its place in the sequence of domains, the node, whether the destination can be reached from it,
 // and the least cost of doing so (0 where it can't).
 pub struct TreeEntry {
@@ -76,13 +83,21 @@ pub enum WriteAnswer {
 }
 
 pub enum TreeAnswer {
-    Built { entries: u32, tally: u32 },
+    Built {
+        entries: u32,
+        tally: u32,
+        round: Round,
+    },
     Refused(Refusal),
 }
 
 pub enum PathAnswer {
     // A path's total as a whole number and as the float of exactly that value.
-    Found { total: u32, float: f32 },
+    Found {
+        total: u32,
+        float: f32,
+        round: Round,
+    },
     // first: no admissible path
     NoPath,
     // next: nothing greater

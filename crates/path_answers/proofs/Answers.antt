@@ -9,12 +9,13 @@ use lib.Dec.{ltb}
 use lib.Ieee.{Float, binary32, toBits, isNan}
 use lib.ListN.{length, take}
 use Rattle.model.specs.declared.Refusal.{Refusal}
+use Rattle.model.specs.declared.Round.{Round}
 use Rattle.model.specs.declared.PathAnswer.{PathAnswer}
 use Rattle.model.specs.declared.PathAnswer.the-variants.{Found, NoPath, End, Refused}
 use Rattle.model.specs.Floats.{inRange, floatOf}
 use Rattle.model.specs.Request.{Search}
 use Rattle.model.specs.Path.{Route, shortestPaths}
-use Rattle.model.specs.Answers.{refused3, done3, plain3, numbersOfPath}
+use Rattle.model.specs.Answers.{refused4, done4, plain4, numbersOfPath}
 use Rattle.model.specs.Calls.{Outcome, nothing, found, firstOf, greaterThan}
 use Rattle.laws.proofs.Tests.{and-both}
 use Rattle.laws.proofs.Split.{answer-some, answer-none}
@@ -24,14 +25,14 @@ use Rattle.path_search.specs.Sought.{SoughtPath, SoughtIs}
 use Rattle.path_answers.specs.Routed.{noneAnswer, noneNumber, RoutedBy}
 
 -- no path is found in a refusal, or in the answer that there is none
-not-found : (r : Refusal) (total : ℕ) (x : Float) → Refused r ≡ Found total x → ⊥
-not-found r total x e = let z : _≡_ {A = ℕ} 0 1 = cc in omega arith
+not-found : (r : Refusal) (total : ℕ) (x : Float) (round : Round) → Refused r ≡ Found total x round → ⊥
+not-found r total x round e = let z : _≡_ {A = ℕ} 0 1 = cc in omega arith
 
-none-not-found : (again : Bool) (total : ℕ) (x : Float) → noneAnswer again ≡ Found total x → ⊥
-none-not-found true total x e = let z : _≡_ {A = ℕ} 0 1 = cc in omega arith
-none-not-found false total x e = let z : _≡_ {A = ℕ} 0 1 = cc in omega arith
+none-not-found : (again : Bool) (total : ℕ) (x : Float) (round : Round) → noneAnswer again ≡ Found total x round → ⊥
+none-not-found true total x round e = let z : _≡_ {A = ℕ} 0 1 = cc in omega arith
+none-not-found false total x round e = let z : _≡_ {A = ℕ} 0 1 = cc in omega arith
 
-pub refused-by : (r : Refusal) (room : ℕ) (path : List ℕ) → length path ≡ 17 → RoutedBy (nothing (refused3 r)) room (record { answer = Refused r; count = 0; path = path })
+pub refused-by : (r : Refusal) (room : ℕ) (path : List ℕ) → length path ≡ 17 → RoutedBy (nothing (refused4 r)) room (record { answer = Refused r; count = 0; path = path })
 refused-by r room path long =
     record {
       numbers-are = refl;
@@ -39,29 +40,29 @@ refused-by r room path long =
       few = omega arith;
       fits = omega arith;
       long = long;
-      real = λ total x e. absurd (not-found r total x e);
+      real = λ total x round e. absurd (not-found r total x round e);
     }
 
-none-numbers : (again : Bool) → numbersOfPath (noneAnswer again) ≡ plain3 (noneNumber again)
+none-numbers : (again : Bool) → numbersOfPath (noneAnswer again) ≡ plain4 (noneNumber again)
 none-numbers true = refl
 none-numbers false = refl
 
 pub none-by
-    : (again : Bool) (answer : PathAnswer) (ps : List Route) (room : ℕ) (path : List ℕ) → answer ≡ noneAnswer again → head? ps ≡ none → length path ≡ 17
-    → RoutedBy (firstOf (noneNumber again) ps) room (record { answer = answer; count = 0; path = path })
-none-by again answer ps room path is e long =
-    let o = answer-none (noneNumber again) ps e in
+    : (round : Round) (again : Bool) (answer : PathAnswer) (ps : List Route) (room : ℕ) (path : List ℕ) → answer ≡ noneAnswer again → head? ps ≡ none → length path ≡ 17
+    → RoutedBy (firstOf round (noneNumber again) ps) room (record { answer = answer; count = 0; path = path })
+none-by round again answer ps room path is e long =
+    let o = answer-none round (noneNumber again) ps e in
     record {
       numbers-are = ap numbersOfPath is ∙ none-numbers again ∙ sym (ap (λ (x : Outcome ℕ). x .numbers) o);
       written-is = sym (ap (λ (x : Outcome ℕ). x .written) o);
       few = omega arith;
       fits = omega arith;
       long = long;
-      real = λ total x f. absurd (none-not-found again total x (sym is ∙ f));
+      real = λ total x y f. absurd (none-not-found again total x y (sym is ∙ f));
     }
 
-found-float : (m n : ℕ) (x y : Float) → Found m x ≡ Found n y → x ≡ y
-found-float m n x y e = cc
+found-float : (m n : ℕ) (x y : Float) (a b : Round) → Found m x a ≡ Found n y b → x ≡ y
+found-float m n x y a b e = cc
 
 no-nan : (x : Float) → inRange x ≡ true → isNan x ≡ false
 unfolding inRange
@@ -74,17 +75,17 @@ no-nan x t = go (isNan x) (and-both (not (isNan x)) (ltb (toBits binary32 x) 0x7
 pub found-by
     : (number : ℕ) (S : Search) (given : List ℕ) (count count′ room : ℕ) (sought : Sought) (x : Float)
     → SoughtPath S given (suc count) sought → length (sought .path) ≡ 17 → count < 17 → suc count ≤ room → count′ ≡ suc count → x ≡ floatOf (sought .total) → inRange x ≡ true
-    → RoutedBy (firstOf number (greaterThan given (shortestPaths S))) room (record { answer = Found (sought .total) x; count = count′; path = sought .path })
+    → RoutedBy (firstOf (sought .round) number (greaterThan given (shortestPaths S))) room (record { answer = Found (sought .total) x (sought .round); count = count′; path = sought .path })
 found-by number S given count count′ room sought x p long few fits is float right =
-    let o = answer-some number (greaterThan given (shortestPaths S)) (p .first) in
+    let o = answer-some (sought .round) number (greaterThan given (shortestPaths S)) (p .first) in
     record {
       numbers-are =
-          (λ j. done3 (sought .total) (toBits binary32 (float j)))
-          ∙ (λ j. done3 (sym (p .total-is) j) (toBits binary32 (floatOf (sym (p .total-is) j))))
+          (λ j. done4 (sought .total) (toBits binary32 (float j)) (sought .round))
+          ∙ (λ j. done4 (sym (p .total-is) j) (toBits binary32 (floatOf (sym (p .total-is) j))) (sought .round))
           ∙ sym (ap (λ (y : Outcome ℕ). y .numbers) o);
       written-is = ap (λ (n : ℕ). take n (sought .path)) is ∙ sym (p .addresses-are) ∙ sym (ap (λ (y : Outcome ℕ). y .written) o);
       few = omega arith;
       fits = omega arith;
       long = long;
-      real = λ total y e. ap isNan (sym (found-float (sought .total) total x y e)) ∙ no-nan x right;
+      real = λ total y round e. ap isNan (sym (found-float (sought .total) total x y (sought .round) round e)) ∙ no-nan x right;
     }

@@ -1,15 +1,15 @@
-// What a call for a path answers, by value: a refusal, no path, or a path with its total both ways.
+// What a call for a path answers, by value: a refusal, no path, or a path with its total both ways and its round.
+use bound::total_float;
 use model::PathAnswer;
 use model::Refusal;
 use path_search::Sought;
-use path_search::bound::total_float;
 ghost use mathlib.Core.Path.{_≡_};
 ghost use mathlib.Core.Bool.{true};
 ghost use mathlib.Core.List.{List};
 ghost use Prim.Native.Nat.{ℕ, suc, _≤_, _<_};
 ghost use Rattle.model.specs.Request.{Search};
 ghost use Rattle.model.specs.Path.{shortestPaths};
-ghost use Rattle.model.specs.Answers.{refused3};
+ghost use Rattle.model.specs.Answers.{refused4};
 ghost use Rattle.model.specs.Calls.{nothing, firstOf, greaterThan};
 ghost use Rattle.path_search.specs.Sought.{SoughtIs};
 ghost use Rattle.path_answers.specs.Routed.{noneAnswer, noneNumber, RoutedBy};
@@ -25,7 +25,7 @@ pub struct Routed {
 
 // No path, and why.
 pub fn refused(r: Refusal) -> Routed
-    ensures { λ x. ⌜ ((room : ℕ) → RoutedBy (nothing (refused3 r)) room x) ⌝ }
+    ensures { λ x. ⌜ ((room : ℕ) → RoutedBy (nothing (refused4 r)) room x) ⌝ }
 {
     Routed {
         answer: PathAnswer::Refused(r),
@@ -35,7 +35,7 @@ pub fn refused(r: Refusal) -> Routed
 }
 
 pub fn refused_by(number: u32) -> Routed
-    ensures { λ x. ⌜ ((room : ℕ) → RoutedBy (nothing (refused3 (record { number = number; place = 0 }))) room x) ⌝ }
+    ensures { λ x. ⌜ ((room : ℕ) → RoutedBy (nothing (refused4 (record { number = number; place = 0 }))) room x) ⌝ }
 {
     refused(Refusal { number, place: 0 })
 }
@@ -53,7 +53,7 @@ fn none_answer(again: bool) -> PathAnswer
 // The path found, or the answer that there is none.
 pub fn answered(sought: Sought, count: usize, again: bool) -> Routed
     requires { ⌜ (count < 17) × (sought .found ≡ true → sought .total ≤ 1048560) ⌝ }
-    ensures { λ x. ⌜ ((S : Search) (given : List ℕ) (room : ℕ) → SoughtIs S given (suc count) sought → suc count ≤ room → RoutedBy (firstOf (noneNumber again) (greaterThan given (shortestPaths S))) room x) ⌝ }
+    ensures { λ x. ⌜ ((S : Search) (given : List ℕ) (room : ℕ) → SoughtIs S given (suc count) sought → suc count ≤ room → RoutedBy (firstOf (sought .round) (noneNumber again) (greaterThan given (shortestPaths S))) room x) ⌝ }
 {
     let path = sought.path;
     if !sought.found {
@@ -65,8 +65,13 @@ pub fn answered(sought: Sought, count: usize, again: bool) -> Routed
     }
     let total = sought.total;
     let float = total_float(total);
+    let round = sought.round;
     Routed {
-        answer: PathAnswer::Found { total, float },
+        answer: PathAnswer::Found {
+            total,
+            float,
+            round,
+        },
         count: count + 1,
         path,
     }

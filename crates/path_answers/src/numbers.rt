@@ -1,18 +1,33 @@
-// The four numbers of an answer for a path.
+// The five numbers of an answer for a path.
 use model::PathAnswer;
+use model::Round;
 ghost use mathlib.Core.Path.{_≡_};
-ghost use Rattle.model.specs.Answers.{numbersOfPath};
-ghost use Rattle.path_answers.specs.Numbers.{fourOf, Real};
+ghost use Rattle.model.specs.Answers.{roundNumber, numbersOfPath};
+ghost use Rattle.path_answers.specs.Numbers.{fiveOf, Real};
 
-// Document 01's number of an answer, its place, and the total both ways.
-pub fn four_of(answer: PathAnswer) -> [u32; 4]
+// The number by which an answer names its round.
+pub fn round_number(round: Round) -> u32
+    ensures { λ r. ⌜ r ≡ roundNumber round ⌝ }
+{
+    match round {
+        Round::First => 1,
+        Round::Second => 2,
+    }
+}
+
+// Document 01's number of an answer, its place, the total both ways, and the round of an answer 0.
+pub fn five_of(answer: PathAnswer) -> [u32; 5]
     requires { ⌜ Real answer ⌝ }
-    ensures { λ r. ⌜ r ≡ fourOf (numbersOfPath answer) ⌝ }
+    ensures { λ r. ⌜ r ≡ fiveOf (numbersOfPath answer) ⌝ }
 {
     match answer {
-        PathAnswer::Found { total, float } => [0, 0, total, f32::to_bits(float)],
-        PathAnswer::NoPath => [1, 0, 0, 0],
-        PathAnswer::End => [2, 0, 0, 0],
-        PathAnswer::Refused(r) => [r.number, r.place, 0, 0],
+        PathAnswer::Found {
+            total,
+            float,
+            round,
+        } => [0, 0, total, f32::to_bits(float), round_number(round)],
+        PathAnswer::NoPath => [1, 0, 0, 0, 0],
+        PathAnswer::End => [2, 0, 0, 0, 0],
+        PathAnswer::Refused(r) => [r.number, r.place, 0, 0, 0],
     }
 }

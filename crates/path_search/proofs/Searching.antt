@@ -1,52 +1,45 @@
 -- A search over the tree in numbers finds the first of the shortest paths above the given list: the bound is asked of the least total, and what is written is the path.
 -- From the law that the next shortest path is what the recursion finds.
-use mathlib.Core.Path.{_≡_, refl, sym, ap, ap₂, subst, _∙_}
-use mathlib.Core.Logic.{⊎-elim}
+use mathlib.Core.Path.{_≡_, refl, sym, ap, subst, _∙_}
 use mathlib.Core.Bool.{Bool, true, false, not, _&&_, true≢false}
-use mathlib.Core.List.{List, [], _∷_, _++_, map, head?, List·Memᴰ}
+use mathlib.Core.List.{List, [], _∷_, head?}
 use mathlib.Core.Option.{Option, none, some}
-use Prim.Native.Nat.{ℕ, zero, suc, _+_, _≤_, _<_}
+use Prim.Native.Nat.{ℕ, suc, _+_, _≤_, _<_}
 use native.Mathlib.Omega.{arith}
 use lib.Dec.{eqb}
 use lib.ListN.{length, take, drop, getD}
-use lib.Seq.{paste, length-paste, take-at}
-use borrow.Author.Tests.{eqb-true, eqb-false, eq-eqb, ne-eqb, lt-ltb}
-use Rattle.model.specs.declared.Hop.{Hop}
-use Rattle.model.specs.Lists.{below, keep, countFrom, each}
-use Rattle.model.specs.Tree.{entriesAt}
+use lib.Seq.{length-paste, take-at}
+use borrow.Author.Tests.{eq-eqb, ne-eqb}
+use Rattle.model.specs.Lists.{isEmpty, below, keep}
 use Rattle.model.specs.Profile.{Layout, hops}
 use Rattle.model.specs.Request.{Search}
-use Rattle.model.specs.Path.{Leg, legs, keepsBound, Route, suffixes, cheapest, shortestPaths}
+use Rattle.model.specs.Path.{legs, keepsBound, Route, suffixes, admissible, cheapest, shortestPaths}
 use Rattle.model.specs.Calls.{greaterThan}
-use Rattle.laws.proofs.Tests.{decide}
 use Rattle.laws.proofs.Lists.{keep-mem}
 use Rattle.laws.proofs.Accepted.{accepted}
-use Rattle.laws.proofs.AcceptedPaths.{accepted-costs}
 use Rattle.laws.proofs.HopKeys.{SortedHops}
 use Rattle.laws.proofs.HopOrder.{hops-sorted}
 use Rattle.laws.proofs.PathsAreThePaths.{length-legs}
 use Rattle.laws.proofs.Suffixes.{suffix-length}
 use Rattle.laws.proofs.Firsts.{optionIf, head?-mem}
-use Rattle.laws.proofs.Reach.{leastFrom-unreached}
 use Rattle.laws.proofs.TreeLeast.{reachFrom}
 use Rattle.laws.proofs.Cheapest.{cheapest-mem, cheapest-nil}
 use Rattle.laws.proofs.NextSplit.{nextFrom, next-split, next-total, next-shortest}
 use Rattle.records.specs.Layout.{Sound}
-use Rattle.levels.specs.Levels.{nodesIf, nodesAt, nodesUpTo, startOf}
 use Rattle.request.specs.declared.Query.{Query}
-use Rattle.request.specs.Query.{stopsOf, searchFor, Ready}
-use Rattle.reaches.specs.Reaches.{unreachable, codeIf, codeOf, codeAt}
+use Rattle.request.specs.Query.{searchFor, roundFor, Ready}
+use Rattle.request.proofs.Requests.{ready-in}
+use Rattle.reaches.specs.Reaches.{unreachable, codeAt}
 use Rattle.vspt.specs.Tree.{WorkedOut}
-use Rattle.vspt.proofs.Known.{code-is, cost-bound}
 use Rattle.vspt.proofs.Filled.{pasted}
-use Rattle.reaches.proofs.Places.{slice-at}
 use Rattle.vspt.proofs.Sequences.{stops-long}
-use Rattle.onward.proofs.Places.{place-codes}
+use Rattle.rounds.specs.declared.Settled.{Settled}
+use Rattle.rounds.specs.Settled.{SettledIs}
+use Rattle.rounds.proofs.Source.{cost-is, small, none-admissible}
 use Rattle.onward.specs.Worked.{Worked, Stands}
-use Rattle.onward.specs.Onward.{legsFrom}
 use Rattle.descent.specs.Routes.{isFound, routed, Written}
 use Rattle.path_search.specs.declared.Sought.{Sought}
-use Rattle.path_search.specs.Sought.{SoughtPath, SoughtIs}
+use Rattle.path_search.specs.Sought.{SoughtPath, SoughtIs, SoughtFor}
 
 -- what was worked out for a ready query
 pub worked-for
@@ -77,82 +70,25 @@ module _ (L : Layout) (s exclude : List ℕ) (q : Query) (cheap : L .mostCost �
   long : length (S .sequence) ≡ q .count
   long = stops-long q
 
-  few : length (S .sequence) ≤ 16
-  few = omega (arith, long, ready .most)
-
-  costs : (h : Hop) → List·Memᴰ h (S .hops) → h .cost ≤ 65535
-  costs h m = omega (arith, accepted-costs L s (ready .profile-right) h m)
-
   sorted : SortedHops (S .hops)
   sorted = hops-sorted L s bytes (accepted L s (ready .profile-right))
 
-  -- the first of all numbers is the source's
-  pub source-number
-      : (addresses codes starts firsts lasts : List ℕ) (examined : ℕ) → WorkedOut L s S addresses codes starts firsts lasts examined
-      → getD codes 0 0 ≡ codeAt S 0 (S .source)
-  unfolding nodesAt entriesAt nodesUpTo each countFrom
-  source-number addresses codes starts firsts lasts examined out =
-      let some : 0 < length (S .sequence) = omega (arith, long, ready .some-domain) in
-      let nodes : nodesAt S 0 ≡ S .source ∷ [] = ap (λ (b : Bool). nodesIf b S 0) (lt-ltb 0 (length (S .sequence)) some) in
-      let part = place-codes S L s addresses codes starts firsts lasts examined out 0 (omega arith) ∙ ap (map (codeAt S 0)) nodes in
-      let one : 0 < startOf S 1 = omega (arith, ap (λ (l : List ℕ). length (l ++ [])) nodes) in
-      sym (slice-at codes 0 (startOf S 1) 0 (omega arith) one) ∙ ap (λ (l : List ℕ). getD l 0 0) part
-
   -- the source's number
   module _ (here : ℕ) (is : here ≡ codeAt S 0 (S .source)) where
-    abbrev reach : Bool
-    reach = (reachFrom S (legs (S .sequence)) 0 (S .source)) .reachable
-
     abbrev cost : ℕ
     cost = (reachFrom S (legs (S .sequence)) 0 (S .source)) .cost
 
-    number : here ≡ codeIf reach cost
-    number = is ∙ code-is S few costs 0 (S .source)
-
-    reached : (here ≡ unreachable → ⊥) → reach ≡ true
-    reached h =
-        ⊎-elim (λ (t : reach ≡ true). t) (λ (f : reach ≡ false). absurd (h (number ∙ ap (λ (b : Bool). codeIf b cost) f))) (decide reach)
-
-    cost-is : (here ≡ unreachable → ⊥) → here ≡ cost
-    cost-is h = number ∙ ap (λ (b : Bool). codeIf b cost) (reached h)
-
-    pub small : (here ≡ unreachable → ⊥) → here ≤ 1048560
-    small h = omega (arith, cost-is h, cost-bound S few costs 0 (S .source) (reached h))
-
     pub stands : (here ≡ unreachable → ⊥) → Stands S 0 (S .source) here
-    stands h = record { number = is; reached = omega (arith, small h) }
+    stands h = record { number = is; reached = omega (arith, small L s exclude q cheap ready here is h) }
 
-    -- no way from the source: no path
-    unreached : here ≡ unreachable → (given : List ℕ) → nextFrom S (legs (S .sequence)) 0 (S .source) given ≡ none
-    unfolding greaterThan keep
-    unreached e given =
-        let f : reach ≡ false =
-        ⊎-elim
-        (λ (t : reach ≡ true).
-        let n = number ∙ ap (λ (b : Bool). codeIf b cost) t in
-        absurd (omega (arith, cost-bound S few costs 0 (S .source) t)))
-        (λ (f : reach ≡ false). f)
-        (decide reach) in
-        sym (next-split S sorted (legs (S .sequence)) 0 (S .source) given)
-        ∙ ap (λ (rs : List Route). head? (greaterThan given (cheapest rs))) (leastFrom-unreached (suffixes S (legs (S .sequence)) 0 (S .source)) f)
-        ∙ ap (λ (rs : List Route). head? (greaterThan given rs)) cheapest-nil
-
-    -- the source doesn't reach the destination, or the bound isn't kept
+    -- no path is admissible, so none is listed
     pub sought-none : (given : List ℕ) → not (eqb here unreachable) && keepsBound (S .limits) here ≡ false → head? (greaterThan given (shortestPaths S)) ≡ none
-    sought-none given f =
-        next-shortest S sorted given
-        ∙ ⊎-elim
-        (λ (t : eqb here unreachable ≡ true).
-        ap (optionIf (keepsBound (S .limits) cost)) (unreached (eqb-true here unreachable t) given) ∙ nothing (keepsBound (S .limits) cost))
-        (λ (u : eqb here unreachable ≡ false).
-        let k : keepsBound (S .limits) cost ≡ false =
-        ap (keepsBound (S .limits)) (sym (cost-is (eqb-false here unreachable u))) ∙ sym (ap (λ (b : Bool). not b && keepsBound (S .limits) here) u) ∙ f in
-        ap (λ (b : Bool). optionIf b (nextFrom S (legs (S .sequence)) 0 (S .source) given)) k)
-        (decide (eqb here unreachable))
+    unfolding shortestPaths greaterThan keep
+    sought-none given f = go (admissible S) (none-admissible L s exclude q cheap ready here is ∙ ap not f)
       where
-        nothing : (b : Bool) → _≡_ {A = Option Route} (optionIf b none) none
-        nothing true = refl
-        nothing false = refl
+        go : (rs : List Route) → isEmpty rs ≡ true → head? (greaterThan given (cheapest rs)) ≡ none
+        go [] e = ap (λ (rs : List Route). head? (greaterThan given rs)) cheapest-nil
+        go (r ∷ rs) e = absurd (true≢false (sym e))
 
     module _ (given : List ℕ) (kept : not (eqb here unreachable) && keepsBound (S .limits) here ≡ true) where
       pub some-way : here ≡ unreachable → ⊥
@@ -160,7 +96,7 @@ module _ (L : Layout) (s exclude : List ℕ) (q : Query) (cheap : L .mostCost �
 
       bound : keepsBound (S .limits) cost ≡ true
       bound =
-          ap (keepsBound (S .limits)) (sym (cost-is some-way))
+          ap (keepsBound (S .limits)) (sym (cost-is L s exclude q cheap ready here is some-way))
           ∙ sym (ap (λ (b : Bool). not b && keepsBound (S .limits) here) (ne-eqb here unreachable some-way))
           ∙ kept
 
@@ -180,7 +116,7 @@ module _ (L : Layout) (s exclude : List ℕ) (q : Query) (cheap : L .mostCost �
       pub sought
           : (old : List ℕ) (found : Bool) (path : List ℕ) → length old ≡ 17
           → Written 0 (nextFrom S (legs (S .sequence)) 0 (S .source) given) old found path
-          → SoughtIs S given (suc (q .count)) (record { found = found; total = here; path = path })
+          → SoughtIs S given (suc (q .count)) (record { round = q .round; found = found; total = here; path = path })
       sought old found path cells w =
           record {
             there = λ t. there-is (nextFrom S (legs (S .sequence)) 0 (S .source) given) refl (sym (w .says) ∙ t);
@@ -198,16 +134,32 @@ module _ (L : Layout) (s exclude : List ℕ) (q : Query) (cheap : L .mostCost �
 
           there-is
               : (o : Option Route) → nextFrom S (legs (S .sequence)) 0 (S .source) given ≡ o → isFound o ≡ true
-              → SoughtPath S given (suc (q .count)) (record { found = found; total = here; path = path })
+              → SoughtPath S given (suc (q .count)) (record { round = q .round; found = found; total = here; path = path })
           there-is none e t = absurd (true≢false (sym t))
           there-is (some r) e t =
               record {
                 path = r;
                 first = first-is ∙ e;
-                total-is = next-total S sorted (legs (S .sequence)) 0 (S .source) given e ∙ sym (cost-is some-way);
+                total-is = next-total S sorted (legs (S .sequence)) 0 (S .source) given e ∙ sym (cost-is L s exclude q cheap ready here is some-way);
                 addresses-are =
                     sym
                     (ap (take (suc (q .count))) (w .holds ∙ ap (λ (x : Option Route). routed 0 x old) e ∙ pasted old 0 (r .addresses))
                     ∙ take-at (r .addresses) (drop (0 + length (r .addresses)) old) (suc (q .count)) (size r e));
-                small = small some-way;
+                small = small L s exclude q cheap ready here is some-way;
               }
+
+-- a query whose round is settled: what is found for it is what is sought for the given one
+module _ (L : Layout) (s exclude : List ℕ) (q : Query) (addresses codes starts firsts lasts : List ℕ) (r : Settled) (is : SettledIs L s exclude q addresses codes starts firsts lasts r) where
+  pub ready-settled : Ready L s exclude q → Ready L s exclude (r .query)
+  ready-settled ready = subst (Ready L s exclude) (sym (is .query-is)) (ready-in (roundFor L s exclude q) q ready)
+
+  pub fits-settled : (given : List ℕ) → (1 ≤ length given → length given ≡ suc (q .count)) → 1 ≤ length given → length given ≡ suc (r .query .count)
+  fits-settled given h = subst (λ (p : Query). 1 ≤ length given → length given ≡ suc (p .count)) (sym (is .query-is)) h
+
+  pub sought-for
+      : (given : List ℕ) (x : Sought) → x .round ≡ r .query .round → SoughtIs (searchFor L s exclude (r .query)) given (suc (r .query .count)) x → SoughtFor L s exclude q given x
+  sought-for given x round found =
+      record {
+        round-is = round ∙ ap (λ (p : Query). p .round) (is .query-is);
+        is = subst (λ (p : Query). SoughtIs (searchFor L s exclude p) given (suc (p .count)) x) (is .query-is) found;
+      }

@@ -6,9 +6,12 @@ use mathlib.Core.Option.{none, some}
 use Prim.Native.Nat.{ℕ, suc, _≤_}
 use lib.Dec.{eqb, ltb}
 use lib.ListN.{length, take}
+use Rattle.model.specs.Profile.{Layout}
 use Rattle.model.specs.Request.{Search}
 use Rattle.model.specs.Path.{Route, shortestPaths}
 use Rattle.model.specs.Calls.{greaterThan}
+use Rattle.request.specs.declared.Query.{Query}
+use Rattle.request.specs.Query.{searchFor, inRound, roundFor}
 use Rattle.path_search.specs.declared.Start.{Start}
 use Rattle.path_search.specs.declared.Start.the-variants.{Before, Same, Behind}
 use Rattle.path_search.specs.declared.Sought.{Sought}
@@ -35,3 +38,8 @@ pub record SoughtIs (S : Search) (given : List ℕ) (long : ℕ) (r : Sought) : 
   pub there : r .found ≡ true → SoughtPath S given long r
   pub missing : r .found ≡ false → head? (greaterThan given (shortestPaths S)) ≡ none
   pub cells : length (r .path) ≡ 17
+
+-- what a search finds for a query: the round that applies is told, and what is found is what that round has
+pub record SoughtFor (L : Layout) (s exclude : List ℕ) (q : Query) (given : List ℕ) (r : Sought) : Type 0 where
+  pub round-is : r .round ≡ roundFor L s exclude q
+  pub is : SoughtIs (searchFor L s exclude (inRound (roundFor L s exclude q) q)) given (suc (q .count)) r

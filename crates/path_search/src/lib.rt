@@ -1,32 +1,25 @@
-// The first of the shortest paths above a given list of addresses: the tree is worked out, the bound asked once, and the path found by going down the tree.
-use crate::bound::keeps_bound;
+// The first of the shortest paths above a given list of addresses, in the round that applies: the tree is worked out, the bound asked once, and the path
+// found by going down the tree.
+use bound::admissible;
 use descent::first_by;
 use descent::next_after;
-use model::Limits;
 use model::NodeAddress;
+use model::Round;
 use onward::Heads;
-use reaches::UNREACHABLE;
 use records::layout::Layout;
 use request::Query;
-use vspt::work_out;
+use rounds::settle;
 ghost use mathlib.Core.Path.{_≡_};
-ghost use mathlib.Core.Bool.{true, not, _&&_};
-ghost use lib.Dec.{eqb};
 ghost use Prim.Native.Nat.{ℕ, suc, _≤_, _<_};
 ghost use lib.ListN.{length};
-ghost use Rattle.model.specs.Floats.{inRange};
-ghost use Rattle.model.specs.Path.{keepsBound};
 ghost use Rattle.model.specs.Request.{Search};
 ghost use Rattle.laws.proofs.NextSplit.{nextFrom};
 ghost use Rattle.records.specs.Layout.{layoutOf, Sound};
-ghost use Rattle.reaches.specs.Reaches.{unreachable};
-ghost use Rattle.request.specs.Query.{searchFor, Ready};
+ghost use Rattle.request.specs.Query.{Ready};
 ghost use Rattle.onward.specs.Worked.{Worked, Stands, Ways};
 ghost use Rattle.onward.specs.Onward.{legsFrom};
 ghost use Rattle.descent.specs.Routes.{Written};
-ghost use Rattle.path_search.specs.Sought.{startOf, SoughtIs};
-
-pub mod bound;
+ghost use Rattle.path_search.specs.Sought.{startOf, SoughtFor};
 
 // How a given list starts: before the source (or not at all), with it, or behind it.
 pub enum Start {
@@ -35,8 +28,9 @@ pub enum Start {
     Behind,
 }
 
-// A path found: its total, and its addresses at the start of `path`.
+// The round that applies, and a path found in it: its total, and its addresses at the start of `path`.
 pub struct Sought {
+    pub round: Round,
     pub found: bool,
     pub total: u32,
     pub path: [u32; 17],
@@ -117,22 +111,11 @@ fn above(
     }
 }
 
-// The source reaches the destination, and what is left there keeps the bound.
-fn admissible(limits: Limits, here: u32) -> bool
-    requires { ⌜ ((here ≡ unreachable → ⊥) → here ≤ 1048560) × (limits .bounded ≡ true → inRange (limits .bound) ≡ true) ⌝ }
-    ensures { λ r. ⌜ r ≡ not (eqb here unreachable) && keepsBound limits here ⌝ }
-{
-    if here == UNREACHABLE {
-        return false;
-    }
-    keeps_bound(limits, here)
-}
-
-// The first of the shortest paths above the given list; of all where it is empty.
+// The first of the shortest paths above the given list, in the round that applies; of all where the list is empty.
 pub fn search(s: &[u8], layout: Layout, exclude: &[u8], q: Query, given: &[u32]) -> Sought
     requires { ⌜ Sound (layoutOf layout) × (layoutOf layout .mostCost ≤ 65535) × Ready (layoutOf layout) (now s) (now exclude) q ⌝ }
     requires { ⌜ (1 ≤ length (now given) → length (now given) ≡ suc (q .count)) ⌝ }
-    ensures { λ r. ⌜ SoughtIs (searchFor (layoutOf layout) (now (s .entry)) (now (exclude .entry)) q) (now (given .entry)) (suc (q .count)) r ⌝ }
+    ensures { λ r. ⌜ SoughtFor (layoutOf layout) (now (s .entry)) (now (exclude .entry)) q (now (given .entry)) r ⌝ }
 {
     let mut addresses = [0u32; 242];
     let mut reaches = [0u32; 242];
@@ -140,7 +123,7 @@ pub fn search(s: &[u8], layout: Layout, exclude: &[u8], q: Query, given: &[u32])
     let mut firsts = [0usize; 16];
     let mut lasts = [0usize; 16];
     let mut path = [0u32; 17];
-    work_out(
+    let settled = settle(
         s,
         layout,
         exclude,
@@ -152,9 +135,12 @@ pub fn search(s: &[u8], layout: Layout, exclude: &[u8], q: Query, given: &[u32])
         &mut lasts,
     );
     let here = reaches[0];
-    let limits = q.limits;
+    let query = settled.query;
+    let round = query.round;
+    let limits = query.limits;
     if !admissible(limits, here) {
         return Sought {
+            round,
             found: false,
             total: 0,
             path,
@@ -163,7 +149,7 @@ pub fn search(s: &[u8], layout: Layout, exclude: &[u8], q: Query, given: &[u32])
     let found = above(
         s,
         layout,
-        q,
+        query,
         here,
         &addresses,
         &reaches,
@@ -174,6 +160,7 @@ pub fn search(s: &[u8], layout: Layout, exclude: &[u8], q: Query, given: &[u32])
         &mut path,
     );
     Sought {
+        round,
         found,
         total: here,
         path,

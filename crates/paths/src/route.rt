@@ -18,13 +18,13 @@ ghost use Rattle.model.specs.Path.{shortestPaths};
 ghost use Rattle.model.specs.Profile.{version1};
 ghost use Rattle.model.specs.Calls.{firstOf, greaterThan, first, next};
 ghost use Rattle.request.specs.Checked.{requestOf};
-ghost use Rattle.request.specs.Query.{searchFor, Ready};
+ghost use Rattle.request.specs.Query.{searchFor, inRound, roundFor, Ready};
 ghost use Rattle.path_answers.specs.Routed.{noneNumber, RoutedBy};
 
-// The answer for a request that passed its checks: the first of the shortest paths above the given list.
+// The answer for a request that passed its checks: the first of the shortest paths above the given list, in the round that applies.
 fn sought_route(profile: &[u8], exclude: &[u8], q: Query, given: &[u32], again: bool) -> Routed
     requires { ⌜ Ready version1 (now profile) (now exclude) q × (1 ≤ length (now given) → length (now given) ≡ suc (q .count)) ⌝ }
-    ensures { λ x. ⌜ ((room : ℕ) → suc (q .count) ≤ room → RoutedBy (firstOf (noneNumber again) (greaterThan (now (given .entry)) (shortestPaths (searchFor version1 (now (profile .entry)) (now (exclude .entry)) q)))) room x) ⌝ }
+    ensures { λ x. ⌜ ((room : ℕ) → suc (q .count) ≤ room → RoutedBy (firstOf (roundFor version1 (now (profile .entry)) (now (exclude .entry)) q) (noneNumber again) (greaterThan (now (given .entry)) (shortestPaths (searchFor version1 (now (profile .entry)) (now (exclude .entry)) (inRound (roundFor version1 (now (profile .entry)) (now (exclude .entry)) q) q))))) room x) ⌝ }
 {
     let layout = first_version();
     let sought = search(profile, layout, exclude, q, given);

@@ -18,11 +18,12 @@ fn address(before: &[u8], a: u32) {
     number(b".", a & 255);
 }
 
-// How many entries a tree has, and how many hops were examined for it.
-pub fn print_tally(entries: u32, tally: u32) {
+// How many entries a tree has, how many hops were examined for it, and in which round it was built.
+pub fn print_tally(entries: u32, tally: u32, round: u32) {
     number(b"tree: ", entries);
     number(b" entries, ", tally);
-    text(b" hops examined\n");
+    number(b" hops examined, round ", round);
+    text(b"\n");
 }
 
 // One entry of a tree.
@@ -53,23 +54,24 @@ pub fn print_path(before: &[u8], path: [u32; 4]) {
     address(b" ", path[3]);
 }
 
-fn print_found(path: [u32; 4], total: u32, float: u32) {
+fn print_found(path: [u32; 4], total: u32, float: u32, round: u32) {
     print_path(b": ", path);
     number(b", total ", total);
     text(b" (");
     io::print_hex(STDOUT_FILENO, float as u64, 8);
-    text(b")\n");
+    number(b"), round ", round);
+    text(b"\n");
 }
 
-// What a call for a path answers: its four numbers, and the path where there is one. Whether there is one.
-pub fn print_answer(call: &[u8], numbers: [u32; 4], path: [u32; 4]) -> bool {
+// What a call for a path answers: its five numbers, and the path where there is one. Whether there is one.
+pub fn print_answer(call: &[u8], numbers: [u32; 5], path: [u32; 4]) -> bool {
     if numbers[0] >= 10 {
         print_refusal(call, numbers[0], numbers[1]);
         return false;
     }
     text(call);
     if numbers[0] == 0 {
-        print_found(path, numbers[2], numbers[3]);
+        print_found(path, numbers[2], numbers[3], numbers[4]);
         return true;
     }
     if numbers[0] == 1 {

@@ -8,17 +8,10 @@ use lib.Dec.{eqb}
 use lib.Ieee.{Float}
 use lib.Seq.{slice}
 use Rattle.model.specs.declared.Hop.{Hop}
-use Rattle.model.specs.Lists.{keep}
-use Rattle.model.specs.Profile.{Layout, hops}
-use Rattle.model.specs.Subobject.{Subobject, subobjects}
-use Rattle.model.specs.Exclusion.{inForce, excludedNode}
 use Rattle.model.specs.Floats.{atLeast}
 use Rattle.model.specs.Request.{Search}
-use Rattle.model.specs.Path.{keepsPin}
 use Rattle.model.specs.Tree.{entry}
-use Rattle.model.specs.WrittenList.{pinIf}
-use Rattle.laws.proofs.Reach.{Reach, unreached, reachIf, via, bestFrom}
-use Rattle.hop_range.specs.Ranges.{leavesNode}
+use Rattle.laws.proofs.Reach.{Reach, unreached, reachIf, via}
 use Rattle.reaches.specs.declared.Place.{Place}
 use Rattle.reaches.specs.declared.Place.the-variants.{At, Nowhere}
 

@@ -5,6 +5,7 @@ use native.Mathlib.Omega.{arith}
 use Rattle.model.specs.declared.Limits.{Limits}
 use Rattle.model.specs.declared.NodeAddress.{NodeAddress}
 use Rattle.model.specs.declared.Refusal.{Refusal}
+use Rattle.model.specs.declared.Round.the-variants.{First}
 use Rattle.model.specs.declared.Verdict.{Verdict}
 use Rattle.model.specs.declared.Verdict.the-variants.{Pass, Refuse}
 use Rattle.model.specs.Profile.{version1, domains, domainCount}
@@ -39,6 +40,7 @@ queryOf st source destination limits =
       source = source;
       destination = destination;
       limits = limits;
+      round = First;
     }
 
 module _ (req : Request) (st : State) (source destination : NodeAddress) where

@@ -1,21 +1,48 @@
--- What `RequestIs` gives a caller: where the checks pass, the request is accepted with the query's sequence, and the search it asks for is the query's; where they refuse, so does the request.
-use mathlib.Core.Path.{_≡_, sym, ap, _∙_}
+-- What `RequestIs` gives a caller: where the checks pass, the request is accepted with the query's sequence, and the search it asks for is
+-- the query's in every round, so in the one that applies; where they refuse, so does the request. And a query is ready in every round.
+use mathlib.Core.Path.{_≡_, refl, sym, ap, _∙_}
 use mathlib.Core.List.{List}
 use Prim.Native.Nat.{ℕ}
 use Rattle.model.specs.declared.DomainIndex.{DomainIndex}
 use Rattle.model.specs.declared.NodeAddress.{NodeAddress}
 use Rattle.model.specs.declared.Limits.{Limits}
 use Rattle.model.specs.declared.Refusal.{Refusal}
+use Rattle.model.specs.declared.Round.{Round}
+use Rattle.model.specs.declared.Round.the-variants.{First}
 use Rattle.model.specs.declared.Verdict.{Verdict}
 use Rattle.model.specs.declared.Verdict.the-variants.{Pass, Refuse}
-use Rattle.model.specs.Profile.{version1, domains, hops}
+use Rattle.model.specs.Profile.{Layout, version1, domains, hops}
 use Rattle.model.specs.Subobject.{subobjects}
 use Rattle.model.specs.Exclusion.{inForce}
 use Rattle.model.specs.Sequence.{refused, good}
-use Rattle.model.specs.Request.{Request, provided, sequenceOf, Accepted, searchOf}
+use Rattle.model.specs.Request.{Request, provided, sequenceOf, Accepted, searchIn}
+use Rattle.model.specs.Rounds.{roundBy, roundOf, searchOf}
+use Rattle.request.specs.declared.Query.{Query}
 use Rattle.request.specs.declared.Checked.{Checked}
-use Rattle.request.specs.Query.{stopsOf, searchFor}
+use Rattle.request.specs.Query.{stopsOf, searchFor, inRound, roundFor, Ready}
 use Rattle.request.specs.Checked.{requestOf, RequestIs}
+
+module _ (x : Round) (q : Query) where
+  pub stops-in : stopsOf (inRound x q) ≡ stopsOf q
+  unfolding stopsOf
+  stops-in = refl
+
+  pub ready-in : {L : Layout} {P E : List ℕ} → Ready L P E q → Ready L P E (inRound x q)
+  unfolding stopsOf
+  ready-in r =
+      record {
+        profile-right = r .profile-right;
+        exclude-right = r .exclude-right;
+        bandwidth-right = r .bandwidth-right;
+        bound-right = r .bound-right;
+        some-domain = r .some-domain;
+        most = r .most;
+        domains-long = r .domains-long;
+        pinned-long = r .pinned-long;
+        pins-long = r .pins-long;
+        known = r .known;
+        apart = r .apart;
+      }
 
 module _ (P : List ℕ) (ingress : DomainIndex) (source destination : NodeAddress) (I E : List ℕ) (limits : Limits) (r : Checked) (is : RequestIs P ingress source destination I E limits r) where
   abbrev req : Request
@@ -27,15 +54,23 @@ module _ (P : List ℕ) (ingress : DomainIndex) (source destination : NodeAddres
   pub accepted-request : r .verdict ≡ Pass → Accepted req (stopsOf (r .query))
   accepted-request e = sym (is .means) ∙ ap (λ (v : Verdict). provided v (good (stopsOf (r .query)))) e
 
-  pub search-request : searchOf req (stopsOf (r .query)) ≡ searchFor version1 P E (r .query)
-  unfolding searchOf
-  search-request =
+  search-in : (x : Round) → searchIn x req (stopsOf (r .query)) ≡ searchFor version1 P E (inRound x (r .query))
+  unfolding searchIn stopsOf
+  search-in x =
       λ k. record {
         domains = domains P;
         hops = hops version1 P;
         sequence = stopsOf (r .query);
-        exclusions = inForce (subobjects E);
+        exclusions = inForce x (subobjects E);
         source = (sym (is .source-kept) k) .0;
         destination = (sym (is .destination-kept) k) .0;
         limits = sym (is .limits-kept) k;
       }
+
+  pub round-request : roundOf req (stopsOf (r .query)) ≡ roundFor version1 P E (r .query)
+  unfolding roundOf roundFor
+  round-request = ap (roundBy (subobjects E)) (search-in First)
+
+  pub search-request : searchOf req (stopsOf (r .query)) ≡ searchFor version1 P E (inRound (roundFor version1 P E (r .query)) (r .query))
+  unfolding searchOf
+  search-request = (λ k. searchIn (round-request k) req (stopsOf (r .query))) ∙ search-in (roundFor version1 P E (r .query))

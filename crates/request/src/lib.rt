@@ -4,14 +4,17 @@ use include_list::read_list;
 use model::DomainIndex;
 use model::Limits;
 use model::NodeAddress;
+use model::Round;
 use model::Verdict;
+ghost use mathlib.Core.Path.{_≡_};
 ghost use Rattle.request.specs.Checked.{RequestIs};
+ghost use Rattle.request.specs.Query.{inRound};
 
 pub mod checks;
 pub mod floats;
 
 // What a search needs of an accepted request beside the profile and the exclude list: the sequence of `count` domains with their entry constraints,
-// where a path starts and ends, and the limits.
+// where a path starts and ends, the limits, and the round in which it is looked for.
 pub struct Query {
     pub count: usize,
     pub domains: [DomainIndex; 16],
@@ -20,9 +23,10 @@ pub struct Query {
     pub source: NodeAddress,
     pub destination: NodeAddress,
     pub limits: Limits,
+    pub round: Round,
 }
 
-// What the checks before 33 say, and where they pass what a search needs.
+// What the checks before 33 say, and where they pass what a search needs in the first round.
 pub struct Checked {
     pub verdict: Verdict,
     pub query: Query,
@@ -52,6 +56,7 @@ pub fn check_request(
                 source,
                 destination,
                 limits,
+                round: Round::First,
             },
         };
     }
@@ -71,6 +76,29 @@ pub fn check_request(
             source,
             destination,
             limits,
+            round: Round::First,
         },
+    }
+}
+
+// The same query in a round.
+pub fn in_round(q: Query, round: Round) -> Query
+    ensures { λ r. ⌜ r ≡ inRound round q ⌝ }
+{
+    let domains = q.domains;
+    let pinned = q.pinned;
+    let pins = q.pins;
+    let source = q.source;
+    let destination = q.destination;
+    let limits = q.limits;
+    Query {
+        count: q.count,
+        domains,
+        pinned,
+        pins,
+        source,
+        destination,
+        limits,
+        round,
     }
 }

@@ -57,7 +57,7 @@ pub record Formed (kinds sizes : List ℕ) (buffers numbers : ℕ) : Type 0 wher
   pub known : any unknown kinds ≡ false
   pub as-many : length kinds ≡ length sizes
   pub whole : sum sizes ≡ buffers
-  pub four : 4 * length kinds ≤ numbers
+  pub five : 5 * length kinds ≤ numbers
 
 not-left : (b : Bool) → not b ≡ false → b ≡ true
 not-left true e = refl
@@ -71,7 +71,7 @@ module _ (kinds sizes : List ℕ) (buffers numbers : ℕ) where
   sums = not (eqb (sum sizes) buffers)
 
   abbrev few : Bool
-  few = ltb numbers (4 * length kinds)
+  few = ltb numbers (5 * length kinds)
 
   pub formed : malformed kinds sizes buffers numbers ≡ false → Formed kinds sizes buffers numbers
   unfolding malformed
@@ -83,7 +83,7 @@ module _ (kinds sizes : List ℕ) (buffers numbers : ℕ) where
         known = a .0;
         as-many = eqb-true (length kinds) (length sizes) (not-left (eqb (length kinds) (length sizes)) (b .0));
         whole = eqb-true (sum sizes) buffers (not-left (eqb (sum sizes) buffers) (d .0));
-        four = ltb-false numbers (4 * length kinds) (d .1);
+        five = ltb-false numbers (5 * length kinds) (d .1);
       }
 
   pub by-kind : any unknown kinds ≡ true → malformed kinds sizes buffers numbers ≡ true
@@ -100,14 +100,14 @@ module _ (kinds sizes : List ℕ) (buffers numbers : ℕ) where
 
   -- the first three passed: the last decides
   pub by-numbers : any unknown kinds ≡ false → length kinds ≡ length sizes → eqb (sum sizes) buffers ≡ true
-      → malformed kinds sizes buffers numbers ≡ ltb (numbers / 4) (length kinds)
+      → malformed kinds sizes buffers numbers ≡ ltb (numbers / 5) (length kinds)
   unfolding malformed
   by-numbers a b d =
       ap (λ (x : Bool). x || (counts || (sums || few))) a
       ∙ ap (λ (x : Bool). not x || (sums || few)) (eq-eqb (length kinds) (length sizes) b)
       ∙ ap (λ (x : Bool). not x || few) d
-      ∙ fours numbers (length kinds) (ltb (numbers / 4) (length kinds)) refl
+      ∙ fives numbers (length kinds) (ltb (numbers / 5) (length kinds)) refl
     where
-      fours : (n k : ℕ) (b : Bool) → ltb (n / 4) k ≡ b → ltb n (4 * k) ≡ b
-      fours n k true e = let l = ltb-true (n / 4) k e in lt-ltb n (4 * k) (omega arith)
-      fours n k false e = let l = ltb-false (n / 4) k e in le-ltb n (4 * k) (omega arith)
+      fives : (n k : ℕ) (b : Bool) → ltb (n / 5) k ≡ b → ltb n (5 * k) ≡ b
+      fives n k true e = let l = ltb-true (n / 5) k e in lt-ltb n (5 * k) (omega arith)
+      fives n k false e = let l = ltb-false (n / 5) k e in le-ltb n (5 * k) (omega arith)

@@ -20,7 +20,7 @@ use Rattle.model.specs.Series.{Call, Reply, replyTo, callOutcome, lastAfter, ru
 use Rattle.path_answers.specs.declared.Routed.{Routed}
 use Rattle.path_answers.specs.Routed.{RoutedBy}
 use Rattle.series.specs.Calls.{kindOf, callsOf}
-use Rattle.path_answers.specs.Numbers.{fourOf}
+use Rattle.path_answers.specs.Numbers.{fiveOf}
 use Rattle.series.specs.Runs.{numbersOf, bufferOf, Left}
 use Rattle.series.proofs.Forms.{Formed, sum-here, sum-none}
 use Rattle.series.proofs.Pieces.{pasted-take, pasted-drop}
@@ -38,8 +38,8 @@ pub record Progress (r : Request) (kinds sizes buffers₀ numbers₀ buffers num
   pub buffers-long : length buffers ≡ length buffers₀
   pub numbers-long : length numbers ≡ length numbers₀
   pub in-buffers : take at buffers ++ each bufferOf (run r (take n last) (callsFrom kinds sizes j at buffers)) ≡ each bufferOf (run r [] (callsOf kinds sizes buffers₀))
-  pub in-numbers : take (4 * j) numbers ++ each numbersOf (run r (take n last) (callsFrom kinds sizes j at buffers)) ≡ each numbersOf (run r [] (callsOf kinds sizes buffers₀))
-  pub behind : drop (4 * j) numbers ≡ drop (4 * j) numbers₀
+  pub in-numbers : take (5 * j) numbers ++ each numbersOf (run r (take n last) (callsFrom kinds sizes j at buffers)) ≡ each numbersOf (run r [] (callsOf kinds sizes buffers₀))
+  pub behind : drop (5 * j) numbers ≡ drop (5 * j) numbers₀
 
 pub begin : (r : Request) (kinds sizes buffers numbers last : List ℕ) → length last ≡ 17 → Formed kinds sizes (length buffers) (length numbers)
     → Progress r kinds sizes buffers numbers buffers numbers last 0 0 0
@@ -83,11 +83,11 @@ run-here r given c cs room R e by =
 abbrev pub keptAfter : Routed → List ℕ → List ℕ
 keptAfter R given = lastAfter (eqb ((numbersOfPath (R .answer)) .answer) 0) (take (R .count) (R .path)) given
 
-pub four-long : (a : PathAnswer) → length (fourOf (numbersOfPath a)) ≡ 4
-four-long (Found n x) = refl
-four-long NoPath = refl
-four-long End = refl
-four-long (Refused x) = refl
+pub five-long : (a : PathAnswer) → length (fiveOf (numbersOfPath a)) ≡ 5
+five-long (Found n x y) = refl
+five-long NoPath = refl
+five-long End = refl
+five-long (Refused x) = refl
 
 -- it is the path written where the answer is 0, else it stays
 module _ (R : Routed) (given last′ : List ℕ) (n′ : ℕ) where
@@ -114,8 +114,8 @@ module _ (r : Request) (kinds sizes buffers₀ numbers₀ buffers numbers last :
     pub room-here : at + size ≤ length buffers
     room-here = omega (arith, left-sum, so-far .reach, so-far .buffers-long)
 
-    pub numbers-here : 4 * j + 4 ≤ length numbers
-    numbers-here = omega (arith, formed .four, so-far .numbers-long)
+    pub numbers-here : 5 * j + 5 ≤ length numbers
+    numbers-here = omega (arith, formed .five, so-far .numbers-long)
 
     module _ (R : Routed) (by : RoutedBy (callOutcome r (take n last) (kindOf (getD kinds j 0)) size) size R) where
       abbrev reply : Reply
@@ -131,7 +131,7 @@ module _ (r : Request) (kinds sizes buffers₀ numbers₀ buffers numbers last :
 
       module _ (buffers′ numbers′ last′ : List ℕ) (n′ : ℕ)
           (put : buffers′ ≡ paste buffers at (R .path) (R .count))
-          (told : numbers′ ≡ paste numbers (4 * j) (fourOf (numbersOfPath (R .answer))) 4)
+          (told : numbers′ ≡ paste numbers (5 * j) (fiveOf (numbersOfPath (R .answer))) 5)
           (kept : take n′ last′ ≡ keptAfter R (take n last))
         where
           abbrev rest : List Reply
@@ -153,39 +153,39 @@ module _ (r : Request) (kinds sizes buffers₀ numbers₀ buffers numbers last :
               ∙ ap (λ (xs : List Reply). take at buffers ++ each bufferOf xs) (sym replies-now)
 
           abbrev F : List ℕ
-          F = fourOf (numbersOfPath (R .answer))
+          F = fiveOf (numbersOfPath (R .answer))
 
-          four : length F ≡ 4
-          four = four-long (R .answer)
+          five : length F ≡ 5
+          five = five-long (R .answer)
 
-          four-over : over (take 4 F) (take 4 (drop (4 * j) numbers)) ≡ F
+          five-over : over (take 5 F) (take 5 (drop (5 * j) numbers)) ≡ F
           unfolding over
-          four-over =
-              let whole : take 4 F ≡ F = take-all 4 F (omega (arith, four)) in
-              ap (λ (w : List ℕ). w ++ drop (length w) (take 4 (drop (4 * j) numbers))) whole
-              ∙ ap (λ (k : ℕ). F ++ drop k (take 4 (drop (4 * j) numbers))) four
-              ∙ ap (λ (l : List ℕ). F ++ l) (slice-empty 4 (drop (4 * j) numbers))
+          five-over =
+              let whole : take 5 F ≡ F = take-all 5 F (omega (arith, five)) in
+              ap (λ (w : List ℕ). w ++ drop (length w) (take 5 (drop (5 * j) numbers))) whole
+              ∙ ap (λ (k : ℕ). F ++ drop k (take 5 (drop (5 * j) numbers))) five
+              ∙ ap (λ (l : List ℕ). F ++ l) (slice-empty 5 (drop (5 * j) numbers))
               ∙ append-nil F
 
-          more : 4 * (j + 1) ≡ 4 * j + 4
+          more : 5 * (j + 1) ≡ 5 * j + 5
           more = omega arith
 
-          numbers-now : take (4 * (j + 1)) numbers′ ++ each numbersOf rest ≡ take (4 * j) numbers ++ each numbersOf (run r (take n last) (callsFrom kinds sizes j at buffers))
+          numbers-now : take (5 * (j + 1)) numbers′ ++ each numbersOf rest ≡ take (5 * j) numbers ++ each numbersOf (run r (take n last) (callsFrom kinds sizes j at buffers))
           unfolding each
           numbers-now =
               ap (λ (l : List ℕ). l ++ each numbersOf rest)
               (ap₂ (λ (k : ℕ) (l : List ℕ). take k l) more told
-              ∙ pasted-take numbers F (4 * j) 4 4 numbers-here (omega arith) (omega (arith, four))
-              ∙ ap (λ (l : List ℕ). take (4 * j) numbers ++ l) four-over)
-              ∙ append-assoc (take (4 * j) numbers) F (each numbersOf rest)
-              ∙ ap (λ (xs : List Reply). take (4 * j) numbers ++ each numbersOf xs) (sym replies-now)
+              ∙ pasted-take numbers F (5 * j) 5 5 numbers-here (omega arith) (omega (arith, five))
+              ∙ ap (λ (l : List ℕ). take (5 * j) numbers ++ l) five-over)
+              ∙ append-assoc (take (5 * j) numbers) F (each numbersOf rest)
+              ∙ ap (λ (xs : List Reply). take (5 * j) numbers ++ each numbersOf xs) (sym replies-now)
 
-          behind-now : drop (4 * (j + 1)) numbers′ ≡ drop (4 * (j + 1)) numbers₀
+          behind-now : drop (5 * (j + 1)) numbers′ ≡ drop (5 * (j + 1)) numbers₀
           behind-now =
               ap₂ (λ (k : ℕ) (l : List ℕ). drop k l) more told
-              ∙ pasted-drop numbers F (4 * j) 4 4 numbers-here (omega arith) (omega (arith, four))
-              ∙ ap (drop 4) (so-far .behind)
-              ∙ drop-drop 4 (4 * j) numbers₀
+              ∙ pasted-drop numbers F (5 * j) 5 5 numbers-here (omega arith) (omega (arith, five))
+              ∙ ap (drop 5) (so-far .behind)
+              ∙ drop-drop 5 (5 * j) numbers₀
               ∙ ap (λ (k : ℕ). drop k numbers₀) (sym more)
 
           pub turn : length last′ ≡ 17 → n′ ≤ 17 → Progress r kinds sizes buffers₀ numbers₀ buffers′ numbers′ last′ n′ (at + size) (j + 1)
@@ -196,7 +196,7 @@ module _ (r : Request) (kinds sizes buffers₀ numbers₀ buffers numbers last :
                 few = few;
                 reach = omega (arith, left-sum, so-far .reach);
                 buffers-long = ap length put ∙ length-paste buffers at (R .path) (R .count) (omega (arith, room-here, by .fits)) (omega (arith, by .few, by .long)) ∙ so-far .buffers-long;
-                numbers-long = ap length told ∙ length-paste numbers (4 * j) F 4 numbers-here (omega (arith, four)) ∙ so-far .numbers-long;
+                numbers-long = ap length told ∙ length-paste numbers (5 * j) F 5 numbers-here (omega (arith, five)) ∙ so-far .numbers-long;
                 in-buffers = buffers-now ∙ so-far .in-buffers;
                 in-numbers = numbers-now ∙ so-far .in-numbers;
                 behind = behind-now;
@@ -217,12 +217,12 @@ module _ (r : Request) (kinds sizes buffers₀ numbers₀ buffers numbers last :
     unfolding each
     all-buffers = sym (append-nil (take at buffers)) ∙ ap (λ (xs : List Reply). take at buffers ++ each bufferOf xs) (sym none-left) ∙ so-far .in-buffers
 
-    all-numbers : take (4 * j) numbers ≡ each numbersOf (run r [] (callsOf kinds sizes buffers₀))
+    all-numbers : take (5 * j) numbers ≡ each numbersOf (run r [] (callsOf kinds sizes buffers₀))
     unfolding each
-    all-numbers = sym (append-nil (take (4 * j) numbers)) ∙ ap (λ (xs : List Reply). take (4 * j) numbers ++ each numbersOf xs) (sym none-left) ∙ so-far .in-numbers
+    all-numbers = sym (append-nil (take (5 * j) numbers)) ∙ ap (λ (xs : List Reply). take (5 * j) numbers ++ each numbersOf xs) (sym none-left) ∙ so-far .in-numbers
 
-    numbers-end : length (take (4 * j) numbers) ≡ 4 * j
-    numbers-end = length-take-le (4 * j) numbers (omega (arith, formed .four, so-far .numbers-long, so-far .within))
+    numbers-end : length (take (5 * j) numbers) ≡ 5 * j
+    numbers-end = length-take-le (5 * j) numbers (omega (arith, formed .five, so-far .numbers-long, so-far .within))
 
     pub done : Left (run r [] (callsOf kinds sizes buffers₀)) numbers₀ buffers numbers
     unfolding over
@@ -230,7 +230,7 @@ module _ (r : Request) (kinds sizes buffers₀ numbers₀ buffers numbers last :
         record {
           in-buffers = sym (take-all at buffers (omega (arith, sum-none sizes j (omega (arith, formed .as-many)), so-far .reach, so-far .buffers-long))) ∙ all-buffers;
           in-numbers =
-              sym (take-append-drop (4 * j) numbers)
-              ∙ ap (λ (l : List ℕ). take (4 * j) numbers ++ l) (so-far .behind ∙ ap (λ (k : ℕ). drop k numbers₀) (sym numbers-end))
+              sym (take-append-drop (5 * j) numbers)
+              ∙ ap (λ (l : List ℕ). take (5 * j) numbers ++ l) (so-far .behind ∙ ap (λ (k : ℕ). drop k numbers₀) (sym numbers-end))
               ∙ ap (λ (w : List ℕ). w ++ drop (length w) numbers₀) all-numbers;
         }

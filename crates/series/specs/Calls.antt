@@ -21,10 +21,10 @@ callsOf (k ∷ ks) (n ∷ ns) buffers = record { kind = kindOf k; buffer = take 
 abbrev pub unknown : ℕ → Bool
 unknown k = ltb 1 k
 
--- a kind over 1; counts of kinds and sizes that differ; sizes that don't add up to the count of the buffers; not four numbers for each call
+-- a kind over 1; counts of kinds and sizes that differ; sizes that don't add up to the count of the buffers; not five numbers for each call
 unfoldable pub malformed : List ℕ → List ℕ → ℕ → ℕ → Bool
 malformed kinds sizes buffers numbers =
     any unknown kinds
     || (not (eqb (length kinds) (length sizes))
     || (not (eqb (sum sizes) buffers)
-    || ltb numbers (4 * length kinds)))
+    || ltb numbers (5 * length kinds)))

@@ -7,14 +7,14 @@ use lib.ListN.{length}
 use Rattle.model.specs.Lists.{each, over}
 use Rattle.model.specs.Request.{Request}
 use Rattle.model.specs.Series.{Call, Reply, replies}
-use Rattle.path_answers.specs.Numbers.{fourOf}
+use Rattle.path_answers.specs.Numbers.{fiveOf}
 use Rattle.series.specs.declared.SeriesAnswer.{SeriesAnswer}
 use Rattle.series.specs.declared.SeriesAnswer.the-variants.{Done, Malformed}
 use Rattle.series.specs.Calls.{callsOf, malformed}
 
--- the four numbers of a call, and its buffer
+-- the five numbers of a call, and its buffer
 abbrev pub numbersOf : Reply → List ℕ
-numbersOf x = fourOf (x .numbers)
+numbersOf x = fiveOf (x .numbers)
 
 abbrev pub bufferOf : Reply → List ℕ
 bufferOf x = x .buffer

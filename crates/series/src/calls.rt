@@ -4,7 +4,7 @@ use model::DomainIndex;
 use model::Limits;
 use model::NodeAddress;
 use path_answers::Routed;
-use path_answers::numbers::four_of;
+use path_answers::numbers::five_of;
 use paths::route::first_route;
 use paths::route::next_route;
 ghost use mathlib.Core.Path.{_≡_};
@@ -99,10 +99,10 @@ pub fn make_calls(
         let path = routed.path;
         let count = routed.count;
         let answer = routed.answer;
-        let four = four_of(answer);
+        let five = five_of(answer);
         put(buffers, at, &path, count);
-        put(numbers, 4 * j, &four, 4);
-        if four[0] == 0 {
+        put(numbers, 5 * j, &five, 5);
+        if five[0] == 0 {
             last = path;
             n = count;
         }

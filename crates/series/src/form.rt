@@ -47,5 +47,5 @@ pub fn malformed(kinds: &[u8], sizes: &[u32], buffers: usize, numbers: usize) ->
     if !adds_up(sizes, buffers) {
         return true;
     }
-    numbers / 4 < kinds.len()
+    numbers / 5 < kinds.len()
 }

@@ -17,7 +17,7 @@ pub enum SeriesAnswer {
     Malformed,
 }
 
-// Makes the calls: kinds[j] is 0 for a first and 1 for a next; the buffers lie back to back, of sizes[j] addresses; four numbers for each call.
+// Makes the calls: kinds[j] is 0 for a first and 1 for a next; the buffers lie back to back, of sizes[j] addresses; five numbers for each call.
 pub fn run(
     profile: &[u8],
     ingress: DomainIndex,

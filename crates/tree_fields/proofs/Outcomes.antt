@@ -1,5 +1,5 @@
--- What is answered for a query whose tree is worked out, by its capacity; and for a request, by its checks. By the tests of `buildTree`.
-use Prim.Native.Nat.{ℕ, _≤_, _<_}
+-- What is answered for a query whose tree is worked out in its round, by its capacity; and for a request, by its checks. By the tests of `buildTree`.
+use Prim.Native.Nat.{ℕ, _+_, _≤_, _<_}
 use native.Mathlib.Omega.{arith}
 use mathlib.Core.Path.{_≡_, refl, sym, ap, ap₂, subst, _∙_}
 use mathlib.Core.Bool.{Bool}
@@ -8,34 +8,39 @@ use lib.ListN.{length, getD}
 use borrow.Author.Tests.{lt-ltb, le-ltb}
 use Rattle.model.specs.declared.Hop.{Hop}
 use Rattle.model.specs.declared.Refusal.{Refusal}
+use Rattle.model.specs.declared.Round.{Round}
+use Rattle.model.specs.declared.Round.the-variants.{First, Second}
 use Rattle.model.specs.declared.TreeEntry.{TreeEntry}
 use Rattle.model.specs.declared.TreeAnswer.the-variants.{Built, Refused}
 use Rattle.model.specs.Verdict.{refuseIf}
 use Rattle.model.specs.Profile.{version1}
 use Rattle.model.specs.Sequence.{Stop, Reading}
-use Rattle.model.specs.Request.{Request, Search, Accepted, sequenceOf, searchOf}
+use Rattle.model.specs.Request.{Request, Search, Accepted, sequenceOf}
+use Rattle.model.specs.Rounds.{roundOf, searchOf, overRounds}
 use Rattle.model.specs.Sequence.{refused, good}
-use Rattle.model.specs.Answers.{done3, refused3}
-use Rattle.model.specs.Calls.{Outcome, nothing, roomVerdict, answerTree, treeInto, buildTree}
-use Rattle.model.specs.Tree.{tree}
+use Rattle.model.specs.Answers.{done4, refused4}
+use Rattle.model.specs.Calls.{Outcome, nothing, answerTree, treeInto, buildTree}
+use Rattle.model.specs.Tree.{tree, tally}
 use Rattle.laws.proofs.Accepted.{accepted}
 use Rattle.laws.proofs.AcceptedPaths.{accepted-costs}
 use Rattle.request.specs.declared.Query.{Query}
-use Rattle.request.specs.Query.{searchFor, Ready}
+use Rattle.request.specs.Query.{searchFor, roundFor, Ready}
+use Rattle.request.proofs.Requests.{ready-in}
 use Rattle.levels.specs.Levels.{startOf}
-use Rattle.vspt.specs.Tree.{WorkedOut}
+use Rattle.rounds.specs.declared.Settled.{Settled}
+use Rattle.rounds.specs.Settled.{SettledIs}
 use Rattle.vspt.proofs.Sequences.{stops-long}
 use Rattle.tree_fields.specs.declared.Solved.{Solved}
 use Rattle.tree_fields.specs.Fields.{levelsOf}
-use Rattle.tree_fields.specs.Solved.{Held, SolvedBy}
-use Rattle.tree_fields.proofs.Whole.{tree-length, most, starts-at, held, tally-small}
+use Rattle.tree_fields.specs.Solved.{treeOutcome, treeFor, Held, SolvedBy}
+use Rattle.tree_fields.proofs.Whole.{tree-length, most, starts-at, held}
 use Rattle.model.specs.Lists.{countFrom, each}
 
 abbrev pub refusal : Refusal → Solved
 refusal r = record { answer = Refused r; count = 0; places = 0 }
 
 -- nothing is written, whatever the lists hold
-pub refused-outcome : (r : Refusal) (room : ℕ) (addresses codes starts : List ℕ) → SolvedBy (nothing (refused3 r)) room addresses codes starts (refusal r)
+pub refused-outcome : (r : Refusal) (room : ℕ) (addresses codes starts : List ℕ) → SolvedBy (nothing (refused4 r)) room addresses codes starts (refusal r)
 unfolding levelsOf each countFrom
 refused-outcome r room addresses codes starts =
     record {
@@ -54,69 +59,91 @@ refused-outcome r room addresses codes starts =
           };
     }
 
-abbrev pub treeOutcome : Search → ℕ → Outcome TreeEntry
-treeOutcome S room = answerTree (roomVerdict (length (tree S)) room) S
-
--- ---- a query whose tree is worked out
+-- ---- a query whose round is settled and whose tree is worked out in it
 
 module _
     (s exclude : List ℕ) (q : Query) (room : ℕ) (ready : Ready version1 s exclude q)
-    (addresses codes starts firsts lasts : List ℕ) (examined : ℕ) (worked : WorkedOut version1 s (searchFor version1 s exclude q) addresses codes starts firsts lasts examined)
+    (addresses codes starts firsts lasts : List ℕ) (r : Settled) (is : SettledIs version1 s exclude q addresses codes starts firsts lasts r)
   where
+    abbrev p : Query
+    p = r .query
+
     abbrev S : Search
-    S = searchFor version1 s exclude q
+    S = searchFor version1 s exclude p
+
+    ready-settled : Ready version1 s exclude p
+    ready-settled = subst (Ready version1 s exclude) (sym (is .query-is)) (ready-in (roundFor version1 s exclude q) q ready)
 
     few : length (S .sequence) ≤ 16
-    few = omega (arith, stops-long q, ready .most)
+    few = omega (arith, stops-long p, ready-settled .most)
 
     cheap : (h : Hop) → List·Memᴰ h (S .hops) → h .cost ≤ 65535
     cheap h m = accepted-costs version1 s (ready .profile-right) h m
 
     -- the start of the place behind the last domain is the number of entries
-    counted : getD starts (q .count) 0 ≡ startOf S (length (S .sequence))
-    counted = ap (λ (k : ℕ). getD starts k 0) (sym (stops-long q)) ∙ starts-at S few cheap version1 s addresses codes starts firsts lasts examined worked (length (S .sequence)) (omega arith)
+    counted : getD starts (p .count) 0 ≡ startOf S (length (S .sequence))
+    counted = ap (λ (k : ℕ). getD starts k 0) (sym (stops-long p)) ∙ starts-at S few cheap version1 s addresses codes starts firsts lasts (is .examined) (is .worked) (length (S .sequence)) (omega arith)
 
-    pub count-small : getD starts (q .count) 0 ≤ 241
-    count-small = omega (arith, counted, most S few cheap version1 s addresses codes starts firsts lasts examined worked)
+    pub places-few : p .count ≤ 16
+    places-few = ready-settled .most
 
-    pub examined-small : examined ≤ 1048560
-    examined-small =
-        let hops-few = accepted version1 s (ready .profile-right) .mostHops in
-        tally-small S few cheap version1 s addresses codes starts firsts lasts examined worked refl (omega arith)
+    pub count-small : getD starts (p .count) 0 ≤ 241
+    count-small = omega (arith, counted, most S few cheap version1 s addresses codes starts firsts lasts (is .examined) (is .worked))
 
-    pub too-small : room < getD starts (q .count) 0 → SolvedBy (treeOutcome S room) room addresses codes starts (refusal (record { number = 34; place = 0 }))
+    pub tally-small : r .tally ≤ 6000
+    tally-small =
+        let few-hops = accepted version1 s (ready .profile-right) .mostHops in
+        omega (arith, is .most, twice (roundFor version1 s exclude q) (is .examined), is .tally-is)
+      where
+        twice : (x : Round) (n : ℕ) → overRounds x n ≤ n + n
+        twice First n = omega arith
+        twice Second n = omega arith
+
+    -- what is said of the settled query is said of the given one
+    given-query : (x : Solved) → SolvedBy (treeOutcome (p .round) S room) room addresses codes starts x → SolvedBy (treeFor s exclude q room) room addresses codes starts x
+    given-query x = subst (λ (y : Query). SolvedBy (treeOutcome (y .round) (searchFor version1 s exclude y) room) room addresses codes starts x) (is .query-is)
+
+    pub too-small : room < getD starts (p .count) 0 → SolvedBy (treeFor s exclude q room) room addresses codes starts (refusal (record { number = 34; place = 0 }))
     too-small h =
         let e : room < length (tree S) = omega (arith, counted, tree-length S) in
-        subst (λ (o : Outcome TreeEntry). SolvedBy o room addresses codes starts (refusal (record { number = 34; place = 0 })))
-        (sym (ap (λ (b : Bool). answerTree (refuseIf b 34 0) S) (lt-ltb room (length (tree S)) e)))
-        (refused-outcome (record { number = 34; place = 0 }) room addresses codes starts)
+        given-query (refusal (record { number = 34; place = 0 }))
+        (subst (λ (o : Outcome TreeEntry). SolvedBy o room addresses codes starts (refusal (record { number = 34; place = 0 })))
+        (sym (ap (λ (b : Bool). answerTree (refuseIf b 34 0) (p .round) S) (lt-ltb room (length (tree S)) e)))
+        (refused-outcome (record { number = 34; place = 0 }) room addresses codes starts))
 
     -- the whole tree
     abbrev all : Solved
-    all = record { answer = Built (getD starts (q .count) 0) examined; count = getD starts (q .count) 0; places = q .count }
+    all = record { answer = Built (getD starts (p .count) 0) (r .tally) (p .round); count = getD starts (p .count) 0; places = p .count }
 
-    pub enough : getD starts (q .count) 0 ≤ room → SolvedBy (treeOutcome S room) room addresses codes starts all
+    tally-is : r .tally ≡ overRounds (p .round) (tally S)
+    tally-is = is .tally-is ∙ ap₂ overRounds (sym (ap (λ (y : Query). y .round) (is .query-is))) (is .worked .laid .tally-is)
+
+    pub enough : getD starts (p .count) 0 ≤ room → SolvedBy (treeFor s exclude q room) room addresses codes starts all
     enough h =
         let e : length (tree S) ≤ room = omega (arith, counted, tree-length S) in
-        subst (λ (o : Outcome TreeEntry). SolvedBy o room addresses codes starts all)
-        (sym (ap (λ (b : Bool). answerTree (refuseIf b 34 0) S) (le-ltb room (length (tree S)) e)))
+        given-query all
+        (subst (λ (o : Outcome TreeEntry). SolvedBy o room addresses codes starts all)
+        (sym (ap (λ (b : Bool). answerTree (refuseIf b 34 0) (p .round) S) (le-ltb room (length (tree S)) e)))
         (record {
-          numbers = ap₂ done3 (counted ∙ sym (tree-length S)) (worked .laid .tally-is);
+          numbers = ap₂ (λ (n m : ℕ). done4 n m (p .round)) (counted ∙ sym (tree-length S)) tally-is;
           most = count-small;
           fits = h;
           held =
-              subst (λ (n : ℕ). Held (tree S) (q .count) n addresses codes starts) (sym counted)
-              (subst (λ (k : ℕ). Held (tree S) k (startOf S (length (S .sequence))) addresses codes starts) (stops-long q)
-              (held S few cheap version1 s addresses codes starts firsts lasts examined worked));
-        })
+              subst (λ (n : ℕ). Held (tree S) (p .count) n addresses codes starts) (sym counted)
+              (subst (λ (k : ℕ). Held (tree S) k (startOf S (length (S .sequence))) addresses codes starts) (stops-long p)
+              (held S few cheap version1 s addresses codes starts firsts lasts (is .examined) (is .worked)));
+        }))
 
 -- ---- a request
 
 module _ (req : Request) (room : ℕ) where
-  pub tree-refused : (r : Refusal) → sequenceOf req ≡ refused r → buildTree req room ≡ nothing (refused3 r)
+  pub tree-refused : (r : Refusal) → sequenceOf req ≡ refused r → buildTree req room ≡ nothing (refused4 r)
   unfolding buildTree
   tree-refused r e = ap (λ (x : Reading (List Stop)). treeInto req x room) e
 
-  pub tree-accepted : (sequence : List Stop) (S : Search) → Accepted req sequence → searchOf req sequence ≡ S → buildTree req room ≡ treeOutcome S room
+  pub tree-accepted
+      : (sequence : List Stop) (x : Round) (S : Search) → Accepted req sequence → roundOf req sequence ≡ x → searchOf req sequence ≡ S
+      → buildTree req room ≡ treeOutcome x S room
   unfolding buildTree
-  tree-accepted sequence S e f = ap (λ (x : Reading (List Stop)). treeInto req x room) e ∙ ap (λ (T : Search). treeOutcome T room) f
+  tree-accepted sequence x S e r f =
+      ap (λ (y : Reading (List Stop)). treeInto req y room) e ∙ ap₂ (λ (y : Round) (T : Search). treeOutcome y T room) r f

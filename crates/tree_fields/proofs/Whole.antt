@@ -1,6 +1,6 @@
 -- The tree in numbers holds the entries of `tree`, field by field: each field of the tree's entries is a list over the places, and so is what `vspt` works out.
 -- By recursion over the places.
-use Prim.Native.Nat.{ℕ, zero, suc, _+_, _*_, _-_, _≤_, _<_}
+use Prim.Native.Nat.{ℕ, zero, suc, _+_, _-_, _≤_, _<_}
 use native.Mathlib.Nat.{zero-add}
 use native.Mathlib.Omega.{arith}
 use mathlib.Core.Path.{_≡_, refl, sym, ap, ap₂, subst, _∙_}
@@ -13,16 +13,14 @@ use borrow.Author.Tests.{lt-ltb}
 use Rattle.model.specs.declared.Hop.{Hop}
 use Rattle.model.specs.declared.TreeEntry.{TreeEntry}
 use Rattle.model.specs.Lists.{countFrom, each}
-use Rattle.model.specs.Profile.{Layout, hops, hopCount}
+use Rattle.model.specs.Profile.{Layout}
 use Rattle.model.specs.Request.{Search}
-use Rattle.model.specs.Path.{legAt}
-use Rattle.model.specs.Tree.{entriesAt, entry, tree, tally}
+use Rattle.model.specs.Tree.{entriesAt, entry, tree}
 use Rattle.laws.proofs.Lists.{map-append, countFrom-mem}
 use Rattle.laws.proofs.Reach.{Reach}
 use Rattle.laws.proofs.TreeLeast.{entry-is}
-use Rattle.levels.specs.Levels.{nodesIf, nodesAt, nodesUpTo, startOf, LaidOut}
+use Rattle.levels.specs.Levels.{nodesIf, nodesAt, nodesUpTo, startOf}
 use Rattle.levels.proofs.Blocks.{each-next}
-use Rattle.levels.proofs.Legs.{tallyUpTo, tally-none, tally-next, tally-all, leg-tally}
 use Rattle.reaches.specs.Reaches.{codeAt}
 use Rattle.vspt.specs.Tree.{codesFrom, WorkedOut}
 use Rattle.vspt.proofs.Filled.{level-long, codes-long, end-nodes}
@@ -191,15 +189,3 @@ module _ (S : Search) where
             marks-are = ap (map markOf) first-codes ∙ sym tree-marks;
             costs-are = ap (map costOf) first-codes ∙ sym tree-costs;
           }
-
-      -- ---- the tally is small
-
-      module _ (same : S .hops ≡ hops L s) (few-hops : hopCount s ≤ 65535) where
-        up-to-small : (i : ℕ) → i ≤ k → tallyUpTo S i ≤ i * 65535
-        up-to-small zero h = omega (arith, tally-none S)
-        up-to-small (suc i) h =
-            let r = worked .laid .ranges i h in
-            omega (arith, tally-next S i h, up-to-small i (omega arith), leg-tally S L s (legAt S i) (getD firsts i 0) (getD lasts i 0) same r, r .within)
-
-        pub tally-small : examined ≤ 1048560
-        tally-small = omega (arith, worked .laid .tally-is, tally-all S, up-to-small k (omega arith))

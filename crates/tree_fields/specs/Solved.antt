@@ -3,13 +3,27 @@ use Prim.Native.Nat.{ℕ, min, _≤_}
 use mathlib.Core.Path.{_≡_}
 use mathlib.Core.List.{List, map}
 use lib.ListN.{length, take}
+use Rattle.model.specs.declared.Round.{Round}
 use Rattle.model.specs.declared.TreeAnswer.{TreeAnswer}
 use Rattle.model.specs.declared.TreeEntry.{TreeEntry}
 use Rattle.model.specs.Lists.{over}
 use Rattle.model.specs.Answers.{numbersOfTree}
-use Rattle.model.specs.Calls.{Outcome}
+use Rattle.model.specs.Calls.{Outcome, roomVerdict, answerTree}
+use Rattle.model.specs.Profile.{version1}
+use Rattle.model.specs.Request.{Search}
+use Rattle.model.specs.Tree.{tree}
+use Rattle.request.specs.declared.Query.{Query}
+use Rattle.request.specs.Query.{searchFor, inRound, roundFor}
 use Rattle.tree_fields.specs.declared.Solved.{Solved}
 use Rattle.tree_fields.specs.Fields.{level, address, mark, cost, markOf, costOf, levelsOf, Places}
+
+-- what a search's tree is answered with by its capacity; and a query's, in the round that applies
+abbrev pub treeOutcome : Round → Search → ℕ → Outcome TreeEntry
+treeOutcome x S room = answerTree (roomVerdict (length (tree S)) room) x S
+
+abbrev pub treeFor : List ℕ → List ℕ → Query → ℕ → Outcome TreeEntry
+treeFor profile exclude q room =
+    treeOutcome (roundFor version1 profile exclude q) (searchFor version1 profile exclude (inRound (roundFor version1 profile exclude q) q)) room
 
 -- what the lists in numbers hold of the entries written, n of them at the start of each list
 pub record Held (written : List TreeEntry) (places n : ℕ) (addresses codes starts : List ℕ) : Type 0 where

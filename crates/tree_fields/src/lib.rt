@@ -1,4 +1,5 @@
-// A request's tree in numbers: every check before 34, the tree worked out, and 34. `put` writes it field by field over the start of buffers.
+// A request's tree in numbers: every check before 34, the tree worked out in the round that applies, and 34. `put` writes it field by field over the
+// start of buffers.
 use crate::put::put_addresses;
 use crate::put::put_costs;
 use crate::put::put_levels;
@@ -12,16 +13,15 @@ use model::Verdict;
 use records::layout::first_version;
 use request::Query;
 use request::check_request;
-use vspt::work_out;
+use rounds::settle;
 ghost use mathlib.Core.Path.{_≡_};
 ghost use Prim.Native.Nat.{min};
 ghost use lib.ListN.{length};
 ghost use Rattle.model.specs.Profile.{version1};
-ghost use Rattle.model.specs.Calls.{buildTree, answerTree, roomVerdict};
-ghost use Rattle.model.specs.Tree.{tree};
+ghost use Rattle.model.specs.Calls.{buildTree};
 ghost use Rattle.request.specs.Checked.{requestOf};
-ghost use Rattle.request.specs.Query.{searchFor, Ready};
-ghost use Rattle.tree_fields.specs.Solved.{SolvedBy, least4, TreeIn};
+ghost use Rattle.request.specs.Query.{Ready};
+ghost use Rattle.tree_fields.specs.Solved.{treeFor, SolvedBy, least4, TreeIn};
 
 pub mod put;
 
@@ -42,7 +42,7 @@ fn refused(r: Refusal) -> Solved
     }
 }
 
-// The tree of a query, and whether there is room for it.
+// The tree of a query in the round that applies, and whether there is room for it.
 fn solve_query(
     profile: &[u8],
     exclude: &[u8],
@@ -54,12 +54,12 @@ fn solve_query(
 ) -> Solved
     requires { ⌜ Ready version1 (now profile) (now exclude) q ⌝ }
     requires { ⌜ (length (now addresses) ≡ 242) × (length (now reaches) ≡ 242) × (length (now starts) ≡ 18) ⌝ }
-    ensures { λ r. ⌜ SolvedBy (answerTree (roomVerdict (length (tree (searchFor version1 (now (profile .entry)) (now (exclude .entry)) q))) room) (searchFor version1 (now (profile .entry)) (now (exclude .entry)) q)) room (now (addresses .exit)) (now (reaches .exit)) (now (starts .exit)) r ⌝ }
+    ensures { λ r. ⌜ SolvedBy (treeFor (now (profile .entry)) (now (exclude .entry)) q room) room (now (addresses .exit)) (now (reaches .exit)) (now (starts .exit)) r ⌝ }
 {
     let mut firsts = [0usize; 16];
     let mut lasts = [0usize; 16];
     let layout = first_version();
-    let examined = work_out(
+    let settled = settle(
         profile,
         layout,
         exclude,
@@ -70,7 +70,9 @@ fn solve_query(
         &mut firsts,
         &mut lasts,
     );
-    let places = q.count;
+    let query = settled.query;
+    let places = query.count;
+    let round = query.round;
     let count = starts[places];
     if room < count {
         return refused(Refusal {
@@ -81,7 +83,8 @@ fn solve_query(
     Solved {
         answer: TreeAnswer::Built {
             entries: count as u32,
-            tally: examined as u32,
+            tally: settled.tally as u32,
+            round,
         },
         count,
         places,

@@ -4,6 +4,7 @@ use mathlib.Core.List.{List, map}
 use Prim.Native.Nat.{ℕ}
 use lib.Ieee.{Float}
 use lib.Seq.{slice}
+use Rattle.model.specs.declared.Round.{Round}
 use Rattle.model.specs.Lists.{keep}
 use Rattle.model.specs.Profile.{Layout, hops}
 use Rattle.model.specs.Subobject.{subobjects}
@@ -15,14 +16,14 @@ use Rattle.hop_range.specs.Ranges.{leavesNode}
 use Rattle.tree_step.specs.declared.Leg.{Leg}
 use Rattle.reaches.specs.Reaches.{codeOf, wayOn}
 
--- a node may be an entry: it isn't excluded, its domain isn't either, and the entry constraint is kept
-abbrev pub allowedBy : List ℕ → Bool → ℕ → ℕ → ℕ → Bool
-allowedBy exclude excluded pinned pin a = not (excludedNode (inForce (subobjects exclude)) a) && (not excluded && keepsPin (pinIf pinned pin) a)
+-- a node may be an entry in a round: it isn't excluded, its domain isn't either, and the entry constraint is kept
+abbrev pub allowedBy : Round → List ℕ → Bool → ℕ → ℕ → ℕ → Bool
+allowedBy x exclude excluded pinned pin a = not (excludedNode (inForce x (subobjects exclude)) a) && (not excluded && keepsPin (pinIf pinned pin) a)
 
 -- the best of the hop records of the leg that leave the entry, where it is allowed
 abbrev pub entryReach : Layout → List ℕ → List ℕ → Leg → Float → List ℕ → List ℕ → ℕ → Reach
 entryReach L s exclude leg asked nodes codes a =
-    reachIf (allowedBy exclude (leg .excluded) (leg .pinned) (leg .pin .0) a)
+    reachIf (allowedBy (leg .round) exclude (leg .excluded) (leg .pinned) (leg .pin .0) a)
     (bestFrom unreached (wayOn asked nodes codes) (keep (leavesNode (leg .from .0) (leg .to .0) a) (hops L s)))
 
 abbrev pub entryCode : Layout → List ℕ → List ℕ → Leg → Float → List ℕ → List ℕ → ℕ → ℕ

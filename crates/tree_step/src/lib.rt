@@ -4,6 +4,7 @@ use hop_range::HopRange;
 use hop_range::tail_range;
 use model::DomainIndex;
 use model::NodeAddress;
+use model::Round;
 use reaches::UNREACHABLE;
 use reaches::best_from;
 use records::layout::Layout;
@@ -23,12 +24,13 @@ ghost use Rattle.hop_range.specs.Ranges.{PairRange};
 ghost use Rattle.reaches.specs.Reaches.{reachOf, NextPlace};
 ghost use Rattle.tree_step.specs.Step.{allowedBy, entryReach, levelCodes};
 
-// A leg of the sequence as a step needs it: its two domains and their hop records; whether the first is excluded and its entry constraint; where
-// its entries start, where those of the next place start, and where these end.
+// A leg of the sequence as a step needs it: its two domains and their hop records; the round, whether the first domain is excluded in it, and
+// its entry constraint; where its entries start, where those of the next place start, and where these end.
 pub struct Leg {
     pub from: DomainIndex,
     pub to: DomainIndex,
     pub hops: HopRange,
+    pub round: Round,
     pub excluded: bool,
     pub pinned: u8,
     pub pin: NodeAddress,
@@ -50,7 +52,7 @@ fn keeps_pin(pinned: u8, pin: NodeAddress, node: NodeAddress) -> bool
 // A node may be an entry of the leg's domain.
 fn allowed_at(exclude: &[u8], leg: Leg, node: NodeAddress) -> bool
     requires { ⌜ formVerdict Exclude (now exclude) ≡ Pass ⌝ }
-    ensures { λ r. ⌜ r ≡ allowedBy (now (exclude .entry)) (leg .excluded) (leg .pinned) (leg .pin .0) (node .0) ⌝ }
+    ensures { λ r. ⌜ r ≡ allowedBy (leg .round) (now (exclude .entry)) (leg .excluded) (leg .pinned) (leg .pin .0) (node .0) ⌝ }
 {
     if leg.excluded {
         return false;
@@ -59,7 +61,8 @@ fn allowed_at(exclude: &[u8], leg: Leg, node: NodeAddress) -> bool
     if !keeps_pin(leg.pinned, pin, node) {
         return false;
     }
-    !excludes_node(exclude, node)
+    let round = leg.round;
+    !excludes_node(exclude, round, node)
 }
 
 // How one entry reaches the destination.

@@ -68,7 +68,7 @@ module _
 
     pub filled-last
         : (i : ℕ) (d : List ℕ) (value : ℕ) → i ≡ q .count → length d ≡ 242
-        → value ≡ codeIf (not (excludedNode (inForce (subobjects exclude)) (q .destination .0))) 0
+        → value ≡ codeIf (not (excludedNode (inForce (q .round) (subobjects exclude)) (q .destination .0))) 0
         → set d (getD starts i 0) value ≡ filledFrom S i 1 d
     filled-last i d value e long v =
         let n : i ≡ length (S .sequence) = e ∙ sym (stops-long q) in
@@ -78,7 +78,7 @@ module _
 
     -- ---- one place, from the one after it
 
-    module _ (i : ℕ) (h : i < q .count) (mid : List ℕ) (long : length mid ≡ 242) (holds : Holds S (suc i) mid) (leg : Leg) (is : LegIs S i leg) where
+    module _ (i : ℕ) (h : i < q .count) (mid : List ℕ) (long : length mid ≡ 242) (holds : Holds S (suc i) mid) (leg : Leg) (is : LegIs S (q .round) i leg) where
       here-nodes : slice (leg .start) (leg .next) addresses ≡ nodesAt S i
       here-nodes =
           (λ j. slice (is .start-is j) (is .next-is j) addresses)
@@ -114,7 +114,7 @@ module _
           : (exit : List ℕ) → exit ≡ paste mid (leg .start) (levelCodes L s exclude leg (q .limits .bandwidth) addresses mid) (leg .next - leg .start)
           → exit ≡ filledAt S i mid
       placed exit e =
-          let codes = level-codes-is S L s exclude few cheap refl refl i (omega (arith, stops-long q)) leg is addresses mid here-nodes next-nodes known in
+          let codes = level-codes-is S (q .round) L s exclude few cheap refl refl i (omega (arith, stops-long q)) leg is addresses mid here-nodes next-nodes known in
           let count : leg .next - leg .start ≡ length (map (codeAt S i) (nodesAt S i)) = let a = is .start-is in let b = is .next-is in omega (arith, level-long S i) in
           e ∙ (λ j. paste mid (is .start-is j) (codes j) (count j))
 

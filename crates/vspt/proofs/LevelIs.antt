@@ -11,6 +11,7 @@ use lib.ListN.{length}
 use lib.Seq.{slice}
 use borrow.Author.Tests.{lt-ltb}
 use Rattle.model.specs.declared.Hop.{Hop}
+use Rattle.model.specs.declared.Round.{Round}
 use Rattle.model.specs.Profile.{Layout, hops, between}
 use Rattle.model.specs.Subobject.{subobjects}
 use Rattle.model.specs.Sequence.{domainOf}
@@ -32,13 +33,14 @@ use Rattle.tree_step.specs.Step.{allowedBy, entryReach, entryCode, levelCodes}
 use Rattle.vspt.proofs.Known.{code-is, head-known}
 
 module _
-    (S : Search) (L : Layout) (s exclude : List ℕ) (few : length (S .sequence) ≤ 16) (cheap : (h : Hop) → List·Memᴰ h (S .hops) → h .cost ≤ 65535)
-    (hops-are : S .hops ≡ hops L s) (exclusions-are : S .exclusions ≡ inForce (subobjects exclude)) (i : ℕ) (k : i < length (S .sequence)) (leg : Leg) (is : LegIs S i leg)
+    (S : Search) (x : Round) (L : Layout) (s exclude : List ℕ) (few : length (S .sequence) ≤ 16) (cheap : (h : Hop) → List·Memᴰ h (S .hops) → h .cost ≤ 65535)
+    (hops-are : S .hops ≡ hops L s) (exclusions-are : S .exclusions ≡ inForce x (subobjects exclude)) (i : ℕ) (k : i < length (S .sequence)) (leg : Leg) (is : LegIs S x i leg)
   where
-    tests : (a : ℕ) → allowedBy exclude (leg .excluded) (leg .pinned) (leg .pin .0) a ≡ allowed S i a
+    tests : (a : ℕ) → allowedBy (leg .round) exclude (leg .excluded) (leg .pinned) (leg .pin .0) a ≡ allowed S i a
     unfolding allowed
     tests a =
-        (λ j. not (excludedNode (sym exclusions-are j) a) && (not (is .excluded-is j) && keepsPin (is .pin-is j) a))
+        (λ j. not (excludedNode (inForce (is .round-is j) (subobjects exclude)) a) && (not (leg .excluded) && keepsPin (pinIf (leg .pinned) (leg .pin .0)) a))
+        ∙ (λ j. not (excludedNode (sym exclusions-are j) a) && (not (is .excluded-is j) && keepsPin (is .pin-is j) a))
         ∙ sym (ap (λ (b : Bool). not (excludedNode (S .exclusions) a) && placeAllows b S i a) (lt-ltb i (length (S .sequence)) k))
 
     abbrev pub nodes : List ℕ

@@ -17,7 +17,7 @@ use Rattle.model.specs.Lists.{allDifferent, countFrom}
 use Rattle.model.specs.Profile.{Layout, domainCount, domainStart, domainAt, domains, hopStart, hopCount, profileVerdict}
 use Rattle.model.specs.Sequence.{Stop, domainOf, domainsOf, noDomain}
 use Rattle.model.specs.Subobject.{subobjects}
-use Rattle.model.specs.Exclusion.{excludedDomain}
+use Rattle.model.specs.Exclusion.{inForce, excludedDomain}
 use Rattle.model.specs.Request.{Search}
 use Rattle.model.specs.Path.{Leg, legs, legAt, noLeg, stopAt, noStop}
 use Rattle.model.specs.WrittenList.{pinIf}
@@ -74,7 +74,8 @@ module _ (L : Layout) (s exclude : List ℕ) (q : Query) (ready : Ready L s excl
   pub record LegMade (starts firsts lasts : List ℕ) (leg : Coded.Leg) : Type 0 where
     pub from-made : leg .from ≡ getD (q .domains) i (record { 0 = 0 })
     pub to-made : leg .to ≡ getD (q .domains) (nextPlace (q .count) i) (record { 0 = 0 })
-    pub excluded-made : leg .excluded ≡ excludedDomain (subobjects exclude) (domainAt s (Q.domainAt q i))
+    pub round-made : leg .round ≡ q .round
+    pub excluded-made : leg .excluded ≡ excludedDomain (inForce (q .round) (subobjects exclude)) (domainAt s (Q.domainAt q i))
     pub pinned-made : leg .pinned ≡ getD (q .pinned) i 0
     pub pin-made : leg .pin ≡ getD (q .pins) i (record { 0 = 0 })
     pub first-made : leg .hops .first ≡ getD firsts i 0
@@ -87,7 +88,7 @@ module _ (L : Layout) (s exclude : List ℕ) (q : Query) (ready : Ready L s excl
       : (addresses starts firsts lasts : List ℕ) (tally : ℕ)
       → LaidOut (searchFor L s exclude q) L s addresses starts firsts lasts tally
       → (leg : Coded.Leg) → LegMade starts firsts lasts leg
-      → LegFor L s (searchFor L s exclude q) i leg
+      → LegFor L s (searchFor L s exclude q) (q .round) i leg
   leg-for addresses starts firsts lasts tally laid leg made =
       let S : Search = searchFor L s exclude q in
       let n = stops-long q in
@@ -98,9 +99,10 @@ module _ (L : Layout) (s exclude : List ℕ) (q : Query) (ready : Ready L s excl
             record {
               from-is = from;
               to-is = to;
+              round-is = made .round-made;
               excluded-is =
                   made .excluded-made
-                  ∙ ap (excludedDomain (subobjects exclude))
+                  ∙ ap (excludedDomain (inForce (q .round) (subobjects exclude)))
                   (sym (domain-at s (Q.domainAt q i) noDomain (ready .known i h)) ∙ ap (λ (p : Stop). domainOf (domains s) (p .domain)) (sym (stop-at q i h)));
               pin-is = ap₂ (λ (m : ℕ) (d : NodeAddress). pinIf m (d .0)) (made .pinned-made) (made .pin-made) ∙ ap (λ (p : Stop). p .pin) (sym (stop-at q i h));
               start-is = made .start-made ∙ laid .starts-are i (omega arith);

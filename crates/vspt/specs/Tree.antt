@@ -32,7 +32,11 @@ pub record LaidOutFor (L : Layout) (s exclude : List ℕ) (q : Query) (addresses
   pub examined : ℕ
   pub laid : LaidOut (searchFor L s exclude q) L s addresses starts firsts lasts examined
 
+-- the numbers of all places stand at the start of a list
+abbrev pub TreeCodes : Search → List ℕ → Type 0
+TreeCodes S codes = take (startOf S (suc (length (S .sequence)))) codes ≡ codesFrom S 0 (suc (length (S .sequence)))
+
 -- the whole tree in numbers: the places' addresses, and beside each its number, at the start of two lists; and what was laid out on the way
 pub record WorkedOut (L : Layout) (s : List ℕ) (S : Search) (addresses codes starts firsts lasts : List ℕ) (examined : ℕ) : Type 0 where
   pub laid : LaidOut S L s addresses starts firsts lasts examined
-  pub codes-are : take (startOf S (suc (length (S .sequence)))) codes ≡ codesFrom S 0 (suc (length (S .sequence)))
+  pub codes-are : TreeCodes S codes

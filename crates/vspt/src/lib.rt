@@ -2,9 +2,9 @@
 use exclusion::excludes_domain;
 use exclusion::excludes_node;
 use hop_range::HopRange;
-use levels::lay_out;
 use model::DomainIndex;
 use model::NodeAddress;
+use model::Round;
 use reaches::UNREACHABLE;
 use records::domain::domain_at;
 use records::layout::Layout;
@@ -21,18 +21,18 @@ ghost use Rattle.model.specs.declared.Verdict.the-variants.{Pass};
 ghost use Rattle.model.specs.Exclusion.{inForce, excludedNode};
 ghost use Rattle.model.specs.Subobject.{formVerdict, subobjects};
 ghost use Rattle.records.specs.Layout.{layoutOf, Sound};
-ghost use Rattle.levels.specs.Levels.{Room, LaidOut};
+ghost use Rattle.levels.specs.Levels.{LaidOut};
 ghost use Rattle.request.specs.Query.{searchFor, Ready};
 ghost use Rattle.reaches.specs.Reaches.{codeIf};
 ghost use Rattle.vspt.specs.Leg.{nextPlace, LegFor};
-ghost use Rattle.vspt.specs.Tree.{Holds, filledAt, filledFrom, LaidOutFor, WorkedOut};
+ghost use Rattle.vspt.specs.Tree.{Holds, filledAt, filledFrom, LaidOutFor, TreeCodes};
 
-// Behind the last domain: the destination reaches itself at no cost, unless it is excluded.
-fn arrival(exclude: &[u8], destination: NodeAddress) -> u32
+// Behind the last domain: the destination reaches itself at no cost, unless it is excluded in the round.
+fn arrival(exclude: &[u8], round: Round, destination: NodeAddress) -> u32
     requires { ⌜ formVerdict Exclude (now exclude) ≡ Pass ⌝ }
-    ensures { λ r. ⌜ r ≡ codeIf (not (excludedNode (inForce (subobjects (now (exclude .entry)))) (destination .0))) 0 ⌝ }
+    ensures { λ r. ⌜ r ≡ codeIf (not (excludedNode (inForce round (subobjects (now (exclude .entry)))) (destination .0))) 0 ⌝ }
 {
-    if excludes_node(exclude, destination) {
+    if excludes_node(exclude, round, destination) {
         return UNREACHABLE;
     }
     0
@@ -50,7 +50,7 @@ pub fn next_domain(domains: [DomainIndex; 16], count: usize, i: usize) -> Domain
     domains[i]
 }
 
-// The leg from place i of the sequence. Whether its domain is excluded is asked here, once for all its entries.
+// The leg from place i of the sequence. Whether its domain is excluded in the round is asked here, once for all its entries.
 fn leg_at(
     s: &[u8],
     layout: Layout,
@@ -62,7 +62,7 @@ fn leg_at(
     lasts: &[usize; 16],
 ) -> Leg
     requires { ⌜ Ready (layoutOf layout) (now s) (now exclude) q × (i < q .count) ⌝ }
-    ensures { λ r. ⌜ ((addresses : List ℕ) (tally : ℕ) → LaidOut (searchFor (layoutOf layout) (now (s .entry)) (now (exclude .entry)) q) (layoutOf layout) (now (s .entry)) addresses (now (starts .entry)) (now (firsts .entry)) (now (lasts .entry)) tally → LegFor (layoutOf layout) (now (s .entry)) (searchFor (layoutOf layout) (now (s .entry)) (now (exclude .entry)) q) i r) ⌝ }
+    ensures { λ r. ⌜ ((addresses : List ℕ) (tally : ℕ) → LaidOut (searchFor (layoutOf layout) (now (s .entry)) (now (exclude .entry)) q) (layoutOf layout) (now (s .entry)) addresses (now (starts .entry)) (now (firsts .entry)) (now (lasts .entry)) tally → LegFor (layoutOf layout) (now (s .entry)) (searchFor (layoutOf layout) (now (s .entry)) (now (exclude .entry)) q) (q .round) i r) ⌝ }
 {
     let domains = q.domains;
     let pinned = q.pinned;
@@ -70,7 +70,8 @@ fn leg_at(
     let from = domains[i];
     let to = next_domain(domains, q.count, i);
     let d = domain_at(s, from.0 as usize);
-    let excluded = excludes_domain(exclude, d);
+    let round = q.round;
+    let excluded = excludes_domain(exclude, round, d);
     Leg {
         from,
         to,
@@ -78,6 +79,7 @@ fn leg_at(
             first: firsts[i],
             last: lasts[i],
         },
+        round,
         excluded,
         pinned: pinned[i],
         pin: pins[i],
@@ -131,7 +133,8 @@ fn fill_from(
     if left == 0 {
         let at = starts[i];
         let destination = q.destination;
-        reaches[at] = arrival(exclude, destination);
+        let round = q.round;
+        reaches[at] = arrival(exclude, round, destination);
         return;
     }
     fill_from(
@@ -161,38 +164,23 @@ fn fill_from(
     );
 }
 
-// The whole tree of a query: its places' entries, and how each reaches the destination. The answer is how many hop records the legs have (the tally).
-pub fn work_out(
+// The whole tree of a query in its round, over the entries that are laid out: how each reaches the destination.
+pub fn fill_tree(
     s: &[u8],
     layout: Layout,
     exclude: &[u8],
     q: Query,
-    addresses: &mut [u32; 242],
+    addresses: &[u32; 242],
+    starts: &[usize; 18],
+    firsts: &[usize; 16],
+    lasts: &[usize; 16],
     reaches: &mut [u32; 242],
-    starts: &mut [usize; 18],
-    firsts: &mut [usize; 16],
-    lasts: &mut [usize; 16],
-) -> usize
+)
     requires { ⌜ Sound (layoutOf layout) × (layoutOf layout .mostCost ≤ 65535) × Ready (layoutOf layout) (now s) (now exclude) q ⌝ }
-    requires { ⌜ Room (now addresses) (now starts) (now firsts) (now lasts) × (length (now reaches) ≡ 242) ⌝ }
-    ensures { λ r. ⌜ WorkedOut (layoutOf layout) (now (s .entry)) (searchFor (layoutOf layout) (now (s .entry)) (now (exclude .entry)) q) (now (addresses .exit)) (now (reaches .exit)) (now (starts .exit)) (now (firsts .exit)) (now (lasts .exit)) r ⌝ }
+    requires { ⌜ LaidOutFor (layoutOf layout) (now s) (now exclude) q (now addresses) (now starts) (now firsts) (now lasts) × (length (now reaches) ≡ 242) ⌝ }
+    ensures { λ _. ⌜ TreeCodes (searchFor (layoutOf layout) (now (s .entry)) (now (exclude .entry)) q) (now (reaches .exit)) × (length (now (reaches .exit)) ≡ 242) ⌝ }
 {
-    let domains = q.domains;
-    let source = q.source;
-    let destination = q.destination;
     let count = q.count;
-    let examined = lay_out(
-        s,
-        layout,
-        domains,
-        count,
-        source,
-        destination,
-        addresses,
-        starts,
-        firsts,
-        lasts,
-    );
     fill_from(
         s,
         layout,
@@ -200,10 +188,10 @@ pub fn work_out(
         q,
         1,
         count - 1,
-        &*addresses,
-        &*starts,
-        &*firsts,
-        &*lasts,
+        addresses,
+        starts,
+        firsts,
+        lasts,
         reaches,
     );
     fill_place(
@@ -212,11 +200,10 @@ pub fn work_out(
         exclude,
         q,
         0,
-        &*addresses,
-        &*starts,
-        &*firsts,
-        &*lasts,
+        addresses,
+        starts,
+        firsts,
+        lasts,
         reaches,
     );
-    examined
 }

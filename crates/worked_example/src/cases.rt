@@ -1,4 +1,4 @@
-// Document 01's profile W and three requests on it. S, P, Q, T, U and Z are the nodes 192.0.2.1, .11, .12, .21, .22 and .99.
+// Document 01's profile W and four requests on it. S, P, Q, T, U and Z are the nodes 192.0.2.1, .11, .12, .21, .22 and .99.
 use model::Limits;
 
 pub const S: u32 = 0xC0000201;
@@ -27,6 +27,10 @@ pub const BACK: [u8; 16] = *b"\x05\x08\x00\x00\x00\x00\xfb\xf1\x05\x08\x00\x00\x
 
 // The node Q.
 pub const WITHOUT_Q: [u8; 8] = *b"\x01\x08\xc0\x00\x02\x0c\x20\x01";
+
+// The nodes P and Q, both with X set: they are only desired to be left out.
+pub const RATHER_WITHOUT_P_AND_Q: [u8; 16] =
+    *b"\x81\x08\xc0\x00\x02\x0b\x20\x01\x81\x08\xc0\x00\x02\x0c\x20\x01";
 
 // S, P, T, Z: a path, but not one of the shortest.
 pub const A_LONGER_PATH: [u32; 4] = [S, 0xC000020B, 0xC0000215, Z];

@@ -1,8 +1,10 @@
-// Prints what the calculator makes of document 01's profile W: the tree and the shortest paths of a request, then of one with a node excluded, then of one that is refused. The file `stdout` in the folder above is taken from document 01, not from a run.
+// Prints what the calculator makes of document 01's profile W: the tree and the shortest paths of a request, then of one with a node excluded, of one with two
+// nodes that are rather not used, and of one that is refused. The file `stdout` in the folder above is taken from documents 01 and 02 by hand, not from a run.
 use crate::cases::A_LONGER_PATH;
 use crate::cases::BACK;
 use crate::cases::ONWARD;
 use crate::cases::PROFILE_W;
+use crate::cases::RATHER_WITHOUT_P_AND_Q;
 use crate::cases::S;
 use crate::cases::WITHOUT_Q;
 use crate::cases::Z;
@@ -10,7 +12,8 @@ use crate::cases::limits;
 use model::DomainIndex;
 use model::NodeAddress;
 use model::TreeAnswer;
-use path_answers::numbers::four_of;
+use path_answers::numbers::five_of;
+use path_answers::numbers::round_number;
 use paths::first;
 use paths::next;
 use printing::print_answer;
@@ -59,8 +62,12 @@ fn show_tree(profile: &[u8], include: &[u8], exclude: &[u8]) {
         &mut cost,
     );
     match answer {
-        TreeAnswer::Built { entries, tally } => {
-            print_tally(entries, tally);
+        TreeAnswer::Built {
+            entries,
+            tally,
+            round,
+        } => {
+            print_tally(entries, tally, round_number(round));
             print_entries(entries, &level, &address, &reachable, &cost);
         }
         TreeAnswer::Refused(r) => {
@@ -81,7 +88,7 @@ fn show_first(profile: &[u8], include: &[u8], exclude: &[u8], path: &mut [u32; 4
         limits(),
         path,
     );
-    print_answer(b"first", four_of(answer), *path)
+    print_answer(b"first", five_of(answer), *path)
 }
 
 // The path after a given list, into `path`; whether there is one.
@@ -103,7 +110,7 @@ fn show_next(
         given,
         path,
     );
-    print_answer(b"next", four_of(answer), *path)
+    print_answer(b"next", five_of(answer), *path)
 }
 
 // First, then next until there is no other. A proved loop has to end: this one makes at most eight calls, more than the profile has paths.
@@ -146,6 +153,12 @@ fn show_requests(profile: &[u8]) {
         profile,
         &ONWARD,
         &WITHOUT_Q,
+    );
+    show(
+        b"\nThe same rather without 192.0.2.11 and 192.0.2.12\n",
+        profile,
+        &ONWARD,
+        &RATHER_WITHOUT_P_AND_Q,
     );
     show(
         b"\nBy AS 64497 and back to 64496\n",

@@ -19,7 +19,7 @@ fn ignored(random: &mut Random) -> u8 {
 }
 
 /// An address; `last` is the attribute in an exclude list.
-fn address_piece(address: u32, prefix: u8, last: u8) -> Piece {
+pub fn address_piece(address: u32, prefix: u8, last: u8) -> Piece {
     let mut piece = vec![1, 8];
     piece.extend(address.to_be_bytes());
     piece.extend([prefix, last]);

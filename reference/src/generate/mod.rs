@@ -10,6 +10,7 @@ mod list_plan;
 mod lists;
 mod random;
 mod requests;
+mod rounds;
 mod shapes;
 mod writing;
 
@@ -146,6 +147,14 @@ pub fn next_case(seed: u64) -> NextCase {
 pub fn small_next_case(seed: u64) -> NextCase {
     let random = &mut Random::new(seed, 10);
     let request = requests::small(random);
+    requests::with_given(random, request)
+}
+
+/// An accepted request whose exclusions and bound decide between the rounds,
+/// and a given list for it.
+pub fn round_case(seed: u64) -> NextCase {
+    let random = &mut Random::new(seed, 14);
+    let request = rounds::any(random);
     requests::with_given(random, request)
 }
 

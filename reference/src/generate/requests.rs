@@ -5,7 +5,7 @@ use super::draft::Draft;
 use super::list_damage::{exclude_list, include_list};
 use super::lists::{self, entry_node, exclude_pieces, Include};
 use super::random::Random;
-use super::shapes;
+use super::{rounds, shapes};
 use crate::floats::bits_of_whole;
 use crate::outcome::NotDone;
 use crate::paths::ShortestPaths;
@@ -47,7 +47,7 @@ impl RequestCase {
         }
     }
 
-    fn question(&self) -> Result<Question<'_>, NotDone> {
+    pub fn question(&self) -> Result<Question<'_>, NotDone> {
         Question::accept(&self.request())
     }
 }
@@ -100,23 +100,36 @@ pub fn out_of_range_ingress(random: &mut Random, draft: &Draft) -> u16 {
     random.pick(&[count, count + 1, 64, u16::MAX])
 }
 
-/// A request along a route, with everything well formed. A step without any
-/// hop may still leave it without paths, and so may an exclusion.
+/// A request with everything well formed. A step without any hop may still
+/// leave it without paths, and so may exclusions and the bound.
 fn accepted_mostly(random: &mut Random, draft: &Draft) -> RequestCase {
+    let mut case = along_a_route(random, draft);
+    if random.chance(1, 6) {
+        rounds::decide(random, draft, &mut case);
+        return case;
+    }
+    let most_excluded = random.pick(&[0, 0, 0, 0, 0, 1, 2, 6]);
+    case.exclude = exclude_pieces(random, draft, most_excluded).concat();
+    if random.chance(1, 3) {
+        set_bound(random, &mut case);
+    }
+    case
+}
+
+/// A request along a route, without exclusions and bound.
+pub fn along_a_route(random: &mut Random, draft: &Draft) -> RequestCase {
     let route = long_route(random, draft);
     let ingress = route[0];
     let mut include = Include::new(draft, ingress);
     include.follow(random, &route);
-    let most_excluded = random.pick(&[0, 0, 0, 0, 0, 1, 2, 6]);
-    let exclude = exclude_pieces(random, draft, most_excluded).concat();
     let (source, destination) = end_points(random, draft, &route);
-    let mut case = RequestCase {
+    RequestCase {
         profile: draft.encode(),
         ingress: ingress as u16,
         source,
         destination,
         include: include.pieces.concat(),
-        exclude,
+        exclude: Vec::new(),
         bandwidth_bits: bandwidth(random, draft),
         bound_counts: false,
         bound_bits: random.bits(),
@@ -125,11 +138,7 @@ fn accepted_mostly(random: &mut Random, draft: &Draft) -> RequestCase {
         address: Vec::new(),
         reachable: Vec::new(),
         cost: Vec::new(),
-    };
-    if random.chance(1, 3) {
-        set_bound(random, &mut case);
     }
-    case
 }
 
 /// The longest of a few routes, because short ones have few paths. Mostly it
@@ -218,13 +227,25 @@ fn bandwidth(random: &mut Random, draft: &Draft) -> u32 {
     }
 }
 
-/// A bound at, just below or just above the least total, or any other.
-fn set_bound(random: &mut Random, case: &mut RequestCase) {
-    let least = case
-        .question()
-        .ok()
-        .and_then(|q| ShortestPaths::new(&q).total());
-    let exact = bits_of_whole(least.unwrap_or(10));
+/// The least total of each round that has a path, whatever the bound.
+pub fn least_totals(case: &RequestCase) -> Vec<u32> {
+    let Ok(mut question) = case.question() else {
+        return Vec::new();
+    };
+    let first = Tree::new(&question).total();
+    let second = question.relax().then(|| Tree::new(&question).total());
+    first.into_iter().chain(second.flatten()).collect()
+}
+
+/// A bound at, just below or just above the least total of either round, or any
+/// other.
+pub fn set_bound(random: &mut Random, case: &mut RequestCase) {
+    let totals = least_totals(case);
+    let least = match totals.is_empty() {
+        true => 10,
+        false => random.pick(&totals),
+    };
+    let exact = bits_of_whole(least);
     case.bound_counts = true;
     case.bound_bits = match random.below(10) {
         0..=3 => exact,
@@ -249,7 +270,7 @@ fn spoil_lists(random: &mut Random, draft: &Draft, case: &mut RequestCase) {
 }
 
 /// Buffers around the size that is needed, with anything in them.
-fn lend(random: &mut Random, case: &mut RequestCase) {
+pub fn lend(random: &mut Random, case: &mut RequestCase) {
     let (path, tree) = match case.question() {
         Ok(question) => (question.path_length(), Tree::new(&question).entry_count()),
         Err(_) => (4, 8),
@@ -285,7 +306,7 @@ pub fn with_given(random: &mut Random, request: RequestCase) -> NextCase {
 /// A shortest path, something near one, a list of entry nodes, or anything.
 fn given_list(random: &mut Random, question: &Question) -> Vec<u32> {
     let length = question.path_length();
-    let paths = ShortestPaths::new(question);
+    let paths = ShortestPaths::new(question.clone());
     let listed = match paths.count() {
         0 => None,
         count => paths.at(u128::from(random.step()) % count),

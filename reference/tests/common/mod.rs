@@ -1,6 +1,8 @@
 //! Document 01's profile W, written out by hand, and short ways to call.
 #![allow(dead_code)]
 
+pub mod desired;
+
 use reference::generate::Reading;
 use reference::Request;
 
@@ -87,41 +89,44 @@ pub fn ask<'a>(profile: &'a [u8], include: &'a [u8]) -> Request<'a> {
 }
 
 /// Number, numbers and buffer of a first with `capacity`.
-pub fn first(request: &Request, capacity: usize) -> (u32, [u32; 3], Vec<u32>) {
+pub fn first(request: &Request, capacity: usize) -> (u32, [u32; 4], Vec<u32>) {
     let mut path = vec![OLD; capacity];
-    let mut numbers = [7; 3];
+    let mut numbers = [7; 4];
     let number = reference::first(request, &mut path, &mut numbers);
     (number, numbers, path)
 }
 
-pub fn next(request: &Request, given: &[u32], capacity: usize) -> (u32, [u32; 3], Vec<u32>) {
+pub fn next(request: &Request, given: &[u32], capacity: usize) -> (u32, [u32; 4], Vec<u32>) {
     let mut path = vec![OLD; capacity];
-    let mut numbers = [7; 3];
+    let mut numbers = [7; 4];
     let number = reference::next(request, given, &mut path, &mut numbers);
     (number, numbers, path)
 }
 
-/// Everything first and then next after next gives, and the total of each.
-pub fn listing(request: &Request, length: usize) -> Vec<(Vec<u32>, u32)> {
+/// Everything first and then next after next gives, with total and round.
+pub fn listing(request: &Request, length: usize) -> Vec<(Vec<u32>, u32, u32)> {
     let mut found = Vec::new();
     let (mut number, mut numbers, mut path) = first(request, length);
     while number == 0 {
-        found.push((path.clone(), numbers[1]));
+        found.push((path.clone(), numbers[1], numbers[3]));
         (number, numbers, path) = next(request, &path.clone(), length);
     }
     let expected_end = if found.is_empty() { 1 } else { 2 };
     assert_eq!(
         (number, numbers, path),
-        (expected_end, [0; 3], vec![OLD; length])
+        (expected_end, [0; 4], vec![OLD; length])
     );
     found
 }
 
-/// The entries of the tree and the hops examined, with room to spare.
-pub fn tree(request: &Request) -> (Vec<(u32, u32, u8, u32)>, u32) {
+/// An entry of the tree: level, address, mark of reachability, cost.
+pub type Entry = (u32, u32, u8, u32);
+
+/// The entries of the tree, the hops examined and the round, with room to spare.
+pub fn tree(request: &Request) -> (Vec<Entry>, u32, u32) {
     let (mut level, mut address, mut cost) = (vec![OLD; 300], vec![OLD; 300], vec![OLD; 300]);
     let mut reachable = vec![0xAA; 300];
-    let mut numbers = [7; 3];
+    let mut numbers = [7; 4];
     let number = reference::tree(
         request,
         &mut level,
@@ -137,7 +142,7 @@ pub fn tree(request: &Request) -> (Vec<(u32, u32, u8, u32)>, u32) {
     let entries = (0..count)
         .map(|i| (level[i], address[i], reachable[i], cost[i]))
         .collect();
-    (entries, numbers[2])
+    (entries, numbers[2], numbers[3])
 }
 
 /// The sequence with its entry constraints, or number and place.

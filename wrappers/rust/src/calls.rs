@@ -161,7 +161,7 @@ pub fn write_list(
     }
 }
 
-/// `numbers`: place, how many entries, tally.
+/// `numbers`: place, how many entries, tally, round.
 pub fn tree(
     profile: &[u8],
     request: &Request,
@@ -169,7 +169,7 @@ pub fn tree(
     address: &mut [u32],
     reachable: &mut [u8],
     cost: &mut [u32],
-    numbers: &mut [u32; 3],
+    numbers: &mut [u32; 4],
 ) -> u32 {
     call!(yq_tree(
         profile,
@@ -186,8 +186,8 @@ pub fn tree(
     ))
 }
 
-/// `numbers`: place, total, float bits.
-pub fn first(profile: &[u8], request: &Request, path: &mut [u32], numbers: &mut [u32; 3]) -> u32 {
+/// `numbers`: place, total, float bits, round.
+pub fn first(profile: &[u8], request: &Request, path: &mut [u32], numbers: &mut [u32; 4]) -> u32 {
     call!(yq_first(
         profile,
         request,
@@ -197,13 +197,13 @@ pub fn first(profile: &[u8], request: &Request, path: &mut [u32], numbers: &mut 
     ))
 }
 
-/// `numbers`: place, total, float bits.
+/// `numbers`: place, total, float bits, round.
 pub fn next(
     profile: &[u8],
     request: &Request,
     given: &[u32],
     path: &mut [u32],
-    numbers: &mut [u32; 3],
+    numbers: &mut [u32; 4],
 ) -> u32 {
     call!(yq_next(
         profile,

@@ -18,6 +18,10 @@
 //!
 //! What the library refuses is a `Refusal` with document 01's number and place
 //! (`include/yachayniq.h` lists them).
+//!
+//! An exclusion with X set is only desired: if there is one, and no path keeps
+//! the bound with all exclusions, only those with X clear count, and the tree
+//! and the paths are of round 2, else of round 1.
 
 use std::error::Error;
 use std::fmt;
@@ -93,19 +97,21 @@ pub struct Entry {
     pub cost: u32,
 }
 
-/// A request's tree, and how many hop records were examined for it.
+/// A request's tree, how many hop records were examined for it, and its round.
 #[derive(Clone, Debug, PartialEq, Eq)]
 pub struct Tree {
     pub entries: Vec<Entry>,
     pub tally: u32,
+    pub round: u32,
 }
 
-/// A shortest path, and its total as a whole number and as a float.
+/// A shortest path, its total as a whole number and as a float, and its round.
 #[derive(Clone, Debug, PartialEq)]
 pub struct Path {
     pub addresses: Vec<Ipv4Addr>,
     pub total: u32,
     pub total_float: f32,
+    pub round: u32,
 }
 
 /// Whether these bytes are a profile.
@@ -172,7 +178,7 @@ impl Profile {
         let mut address = [0; MOST_ENTRIES];
         let mut reachable = [0; MOST_ENTRIES];
         let mut cost = [0; MOST_ENTRIES];
-        let mut numbers = [0; 3];
+        let mut numbers = [0; 4];
         let number = calls::tree(
             &self.0,
             request,
@@ -182,7 +188,7 @@ impl Profile {
             &mut cost,
             &mut numbers,
         );
-        let [place, count, tally] = numbers;
+        let [place, count, tally, round] = numbers;
         unless_refused(number, place)?;
         let entry = |i: usize| Entry {
             level: level[i],
@@ -191,13 +197,17 @@ impl Profile {
             cost: cost[i],
         };
         let entries = (0..count as usize).map(entry).collect();
-        Ok(Tree { entries, tally })
+        Ok(Tree {
+            entries,
+            tally,
+            round,
+        })
     }
 
     /// The first of the shortest paths, if there is one.
     pub fn first(&self, request: &Request) -> Result<Option<Path>, Refusal> {
         let mut path = [0; MOST_ADDRESSES];
-        let mut numbers = [0; 3];
+        let mut numbers = [0; 4];
         let number = calls::first(&self.0, request, &mut path, &mut numbers);
         if number == 1 {
             return Ok(None);
@@ -213,7 +223,7 @@ impl Profile {
     pub fn next(&self, request: &Request, after: &[Ipv4Addr]) -> Result<Option<Path>, Refusal> {
         let given: Vec<u32> = after.iter().copied().map(u32::from).collect();
         let mut path = [0; MOST_ADDRESSES];
-        let mut numbers = [0; 3];
+        let mut numbers = [0; 4];
         let number = calls::next(&self.0, request, &given, &mut path, &mut numbers);
         if number == 2 {
             return Ok(None);
@@ -268,11 +278,12 @@ fn unless_refused(number: u32, place: u32) -> Result<(), Refusal> {
     }
 }
 
-fn found(addresses: &[u32], numbers: [u32; 3]) -> Path {
-    let [_, total, float_bits] = numbers;
+fn found(addresses: &[u32], numbers: [u32; 4]) -> Path {
+    let [_, total, float_bits, round] = numbers;
     Path {
         addresses: addresses.iter().copied().map(Ipv4Addr::from).collect(),
         total,
         total_float: f32::from_bits(float_bits),
+        round,
     }
 }

@@ -1,8 +1,8 @@
 //! The wrapper on document 01's worked examples, each call and each kind of
-//! answer.
+//! answer, and on desired exclusions.
 
 use std::net::Ipv4Addr;
-use yachayniq::{check_profile, Entry, Profile, Refusal, Request, Stop};
+use yachayniq::{check_profile, Entry, Path, Profile, Refusal, Request, Stop, Tree};
 
 const W: &[u8] = include_bytes!("../../../examples/w.dsp");
 const ONWARD: &[u8] = &[32, 4, 0xFB, 0xF1, 32, 4, 0xFB, 0xF2];
@@ -10,13 +10,14 @@ const THROUGH_U: &[u8] = &[
     32, 4, 0xFB, 0xF1, 1, 8, 192, 0, 2, 22, 32, 0, 32, 4, 0xFB, 0xF2,
 ];
 const BACK: &[u8] = &[5, 8, 0, 0, 0, 0, 0xFB, 0xF1, 5, 8, 0, 0, 0, 0, 0xFB, 0xF0];
-const WITHOUT_Q: &[u8] = &[1, 8, 192, 0, 2, 12, 32, 1];
+const DESIRED: u8 = 0x80; // X set
 const S: Ipv4Addr = Ipv4Addr::new(192, 0, 2, 1);
 const P: Ipv4Addr = Ipv4Addr::new(192, 0, 2, 11);
 const Q: Ipv4Addr = Ipv4Addr::new(192, 0, 2, 12);
 const T: Ipv4Addr = Ipv4Addr::new(192, 0, 2, 21);
 const U: Ipv4Addr = Ipv4Addr::new(192, 0, 2, 22);
 const Z: Ipv4Addr = Ipv4Addr::new(192, 0, 2, 99);
+const EVERY: [[Ipv4Addr; 4]; 3] = [[S, P, U, Z], [S, Q, T, Z], [S, Q, U, Z]];
 
 /// Document 01's request: S to Z by both other domains, bandwidth 100, no bound.
 fn request() -> Request<'static> {
@@ -31,28 +32,38 @@ fn w() -> Profile {
     Profile::new(W).expect("document 01's profile")
 }
 
+/// The exclusion of a node, with this X.
+fn without(x: u8, node: Ipv4Addr) -> [u8; 8] {
+    let [a, b, c, d] = node.octets();
+    [x | 1, 8, a, b, c, d, 32, 1]
+}
+
 fn refusal<T>(number: u32, place: u32) -> Result<T, Refusal> {
     Err(Refusal { number, place })
 }
 
-#[test]
-fn tree() {
-    let tree = w().tree(&request()).unwrap();
-    let entry = |level, address, cost| Entry {
+/// The tree of a request by both other domains: what S, P, Q, T and U cost, 0
+/// where Z can't be reached.
+#[track_caller]
+fn costed_in(round: u32, request: Request, costs: [u32; 5]) {
+    let entry = |((level, address), cost)| Entry {
         level,
         address,
-        reachable: true,
+        reachable: cost != 0,
         cost,
     };
-    let expected = [
-        entry(0, S, 14),
-        entry(1, P, 4),
-        entry(1, Q, 11),
-        entry(2, T, 2),
-        entry(2, U, 3),
-    ];
-    assert_eq!(tree.entries, expected);
-    assert_eq!(tree.tally, 8);
+    let nodes = [(0, S), (1, P), (1, Q), (2, T), (2, U)];
+    let expected = Tree {
+        entries: nodes.into_iter().zip(costs).map(entry).collect(),
+        tally: 8 * round,
+        round,
+    };
+    assert_eq!(w().tree(&request), Ok(expected));
+}
+
+#[test]
+fn tree() {
+    costed_in(1, request(), [14, 4, 11, 2, 3]);
 
     let alone = Request {
         include: &[],
@@ -65,32 +76,39 @@ fn tree() {
         reachable: false,
         cost: 0,
     };
-    assert_eq!((tree.entries, tree.tally), (vec![source], 0));
+    assert_eq!((tree.entries, tree.tally, tree.round), (vec![source], 0, 1));
     assert_eq!(w().first(&alone), Ok(None));
 }
 
-/// The shortest paths of a request, each of total 14.
+/// The shortest paths of a request, each of total 14 and of this round.
 #[track_caller]
-fn listed(request: Request, expected: &[[Ipv4Addr; 4]]) {
+fn listed_in(round: u32, request: Request, expected: &[[Ipv4Addr; 4]]) {
+    let path = |addresses: &[Ipv4Addr; 4]| Path {
+        addresses: addresses.to_vec(),
+        total: 14,
+        total_float: 14.0,
+        round,
+    };
+    let expected: Vec<_> = expected.iter().map(path).collect();
     let w = w();
     let paths: Vec<_> = w.paths(&request).unwrap().collect();
-    assert!(paths
-        .iter()
-        .all(|path| path.total == 14 && path.total_float == 14.0));
-    let paths: Vec<_> = paths.into_iter().map(|path| path.addresses).collect();
     assert_eq!(paths, expected);
+}
+
+#[track_caller]
+fn listed(request: Request, expected: &[[Ipv4Addr; 4]]) {
+    listed_in(1, request, expected);
 }
 
 #[test]
 fn paths() {
-    let every = [[S, P, U, Z], [S, Q, T, Z], [S, Q, U, Z]];
     let request = request();
     let bounded = |bound| Request {
         bound: Some(bound),
         ..request
     };
-    listed(request, &every);
-    listed(bounded(14.0), &every);
+    listed(request, &EVERY);
+    listed(bounded(14.0), &EVERY);
     listed(bounded(13.0), &[]);
     let bandwidth = f32::from_bits(0x42C80001);
     listed(
@@ -98,12 +116,49 @@ fn paths() {
             bandwidth,
             ..request
         },
-        &every[..2],
+        &EVERY[..2],
     );
-    let exclude = WITHOUT_Q;
-    listed(Request { exclude, ..request }, &every[..1]);
+    let exclude = &without(0, Q);
+    listed(Request { exclude, ..request }, &EVERY[..1]);
     let include = THROUGH_U;
-    listed(Request { include, ..request }, &[every[0], every[2]]);
+    listed(Request { include, ..request }, &[EVERY[0], EVERY[2]]);
+}
+
+#[test]
+fn rounds() {
+    let cases: [(&[[u8; 8]], u32, &[[Ipv4Addr; 4]], [u32; 5]); 4] = [
+        (&[without(DESIRED, Q)], 1, &EVERY[..1], [14, 4, 0, 2, 3]),
+        (
+            &[without(DESIRED, P), without(DESIRED, Q)],
+            2,
+            &EVERY,
+            [14, 4, 11, 2, 3],
+        ),
+        (
+            &[without(0, P), without(DESIRED, Q)],
+            2,
+            &EVERY[1..],
+            [14, 0, 11, 2, 3],
+        ),
+        (&[without(0, P), without(0, Q)], 1, &[], [0, 0, 0, 2, 3]),
+    ];
+    for (exclude, round, paths, costs) in cases {
+        let request = Request {
+            exclude: &exclude.concat(),
+            ..request()
+        };
+        listed_in(round, request, paths);
+        costed_in(round, request, costs);
+    }
+    // AS 64511, which W lacks: the bound alone leaves no path in either round,
+    // and the tree, which it isn't applied to, is of the second.
+    let request = Request {
+        exclude: &[DESIRED | 32, 4, 0xFB, 0xFF],
+        bound: Some(13.0),
+        ..request()
+    };
+    assert_eq!(w().first(&request), Ok(None));
+    costed_in(2, request, [14, 4, 11, 2, 3]);
 }
 
 #[test]

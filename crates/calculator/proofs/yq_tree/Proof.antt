@@ -1,5 +1,7 @@
 -- `yq_tree` meets its contract: each arm stores the numbers that `numbersOfTree` gives for it.
 use mathlib.Core.Path.{_≡_, sym, ap, subst, _∙_}
+use mathlib.Core.List.{List, [], _∷_}
+use Prim.Native.Nat.{ℕ}
 use Rattle.model.specs.declared.Limits.{Limits}
 use Rattle.model.specs.declared.TreeEntry.{TreeEntry}
 use Rattle.model.specs.Request.{Request}
@@ -44,6 +46,9 @@ tree-numbers-requires c κs = search needs
 enum-known-answer : tie.Need-enum-known-answer
 enum-known-answer c = search needs
 
+round-number-requires : tie.Need-round-number-requires
+round-number-requires c κs = search needs
+
 enum-known-answer-2 : tie.Need-enum-known-answer-2
 enum-known-answer-2 c = search needs
 
@@ -61,11 +66,12 @@ same-length-4 c = search needs
 
 returns : tie.Need-returns
 returns c =
-    let is = answered (c .before .before .before .before .before .before .before .before .before .before .before .before) in
-    let e = sym (ap numbersOfTree (c .before .before .answer .given .1)) ∙ is .numbers in
+    let is = answered (c .before .before .before .before .before .before .before .before .before .before .before .before .before) in
+    let built = c .before .before .before .answer .given in
+    let e = sym (ap numbersOfTree (built .1)) ∙ is .numbers in
     record {
       answer = ap (λ (n : Numbers). n .answer) e;
-      others = ap (λ (n : Numbers). n .others) e;
+      others = ap {B = List ℕ} (λ (n : ℕ). 0 ∷ built .0 .0 ∷ built .0 .1 .0 ∷ n ∷ []) (c .before .round-number .ensures) ∙ ap (λ (n : Numbers). n .others) e;
       in-levels = is .in-levels;
       in-addresses = is .in-addresses;
       in-marks = is .in-marks;
@@ -104,6 +110,7 @@ yq-tree-spec =
     limits-of-requires
     tree-numbers-requires
     enum-known-answer
+    round-number-requires
     enum-known-answer-2
     same-length
     same-length-2

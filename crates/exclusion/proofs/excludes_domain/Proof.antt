@@ -3,60 +3,59 @@ use Prim.Native.Nat.{_-_}
 use mathlib.Core.Path.{sym, _∙_}
 use native.Mathlib.Omega.{arith}
 use lib.ListN.{length}
-use Rattle.model.specs.Exclusion.{takesDomain, excludedDomain}
-use Rattle.exclusion.proofs.Exclusions.{Undecided, undecided, none-left, readable-here, item-here, decided, passed}
+use Rattle.exclusion.proofs.Exclusions.{Undecided, undecided, none-left, readable-here, item-here, decided, passed, barsDomain, domain-barred}
 use Rattle.exclusion.proofs.excludes_domain.Statement.{statement}
 use Rattle.exclusion.proofs.excludes_domain.Tie as tie
 
 abbrev Inv-loop : tie.InvT-loop
-Inv-loop list d at₀ at = Undecided (takesDomain d) list at
+Inv-loop list round d at₀ at = Undecided (barsDomain round d) list at
 
 abbrev μ-loop : tie.MeasureT-loop
-μ-loop list d at₀ at = length list - at
+μ-loop list round d at₀ at = length list - at
 
 loop-holds : tie.Need-loop-holds Inv-loop μ-loop
 loop-holds c =
     let a = c .before .args in
-    undecided (takesDomain (a .d)) (a .list .now) (c .before .pre .0)
+    undecided (barsDomain (a .round) (a .d)) (a .list .now) (c .before .pre .0)
 
 subobject-at-requires : tie.Need-subobject-at-requires Inv-loop μ-loop
 subobject-at-requires c κs =
     let a = c .before .before .before .args in
-    readable-here (takesDomain (a .d)) (a .list .now) (c .before .loop .at) (c .before .loop .inv) (c .loop-test .taken)
+    readable-here (barsDomain (a .round) (a .d)) (a .list .now) (c .before .loop .at) (c .before .loop .inv) (c .loop-test .taken)
 
-takes-domain-requires : tie.Need-takes-domain-requires Inv-loop μ-loop
-takes-domain-requires c κs =
+bars-domain-requires : tie.Need-bars-domain-requires Inv-loop μ-loop
+bars-domain-requires c κs =
     let a = c .before .before .before .before .args in
     let l = c .before .before .loop in
-    ((item-here (takesDomain (a .d)) (a .list .now) (l .at) (l .inv) (c .before .loop-test .taken) _ (c .subobject-at .ensures)) .area, c .before .before .before .before .pre .1)
+    ((item-here (barsDomain (a .round) (a .d)) (a .list .now) (l .at) (l .inv) (c .before .loop-test .taken) _ (c .subobject-at .ensures)) .area, c .before .before .before .before .pre .1)
 
 returns : tie.Need-returns Inv-loop μ-loop
-unfolding excludedDomain
 returns c =
     let a = c .before .before .before .before .before .before .args in
     let l = c .before .before .before .before .loop in
-    decided (takesDomain (a .d)) (a .list .now) (l .at) (l .inv) (c .before .before .before .loop-test .taken) _ (c .before .before .subobject-at .ensures)
-    (sym (c .before .takes-domain .ensures) ∙ c .if1 .taken)
+    decided (barsDomain (a .round) (a .d)) (a .list .now) (l .at) (l .inv) (c .before .before .before .loop-test .taken) _ (c .before .before .subobject-at .ensures)
+    (sym (c .before .bars-domain .ensures) ∙ c .if1 .taken)
+    ∙ domain-barred (a .round) (a .d) (a .list .now)
 
 loop-less : tie.Need-loop-less Inv-loop μ-loop
 loop-less c =
     let a = c .before .before .before .before .before .before .args in
     let l = c .before .before .before .before .loop in
-    let is = item-here (takesDomain (a .d)) (a .list .now) (l .at) (l .inv) (c .before .before .before .loop-test .taken) _ (c .before .before .subobject-at .ensures) in
+    let is = item-here (barsDomain (a .round) (a .d)) (a .list .now) (l .at) (l .inv) (c .before .before .before .loop-test .taken) _ (c .before .before .subobject-at .ensures) in
     omega (arith, is .further, is .inside)
 
 loop-again : tie.Need-loop-again Inv-loop μ-loop
 loop-again c =
     let a = c .before .before .before .before .before .before .args in
     let l = c .before .before .before .before .loop in
-    passed (takesDomain (a .d)) (a .list .now) (l .at) (l .inv) (c .before .before .before .loop-test .taken) _ (c .before .before .subobject-at .ensures)
-    (sym (c .before .takes-domain .ensures) ∙ c .if1 .left)
+    passed (barsDomain (a .round) (a .d)) (a .list .now) (l .at) (l .inv) (c .before .before .before .loop-test .taken) _ (c .before .before .subobject-at .ensures)
+    (sym (c .before .bars-domain .ensures) ∙ c .if1 .left)
 
 returns-2 : tie.Need-returns-2 Inv-loop μ-loop
-unfolding excludedDomain
 returns-2 c =
     let a = c .before .before .before .args in
-    none-left (takesDomain (a .d)) (a .list .now) (c .before .loop .at) (c .before .loop .inv) (c .loop-test .left)
+    none-left (barsDomain (a .round) (a .d)) (a .list .now) (c .before .loop .at) (c .before .loop .inv) (c .loop-test .left)
+    ∙ domain-barred (a .round) (a .d) (a .list .now)
 
 pub excludes-domain-spec : {M : Type 1} → statement M
 excludes-domain-spec =
@@ -66,7 +65,7 @@ excludes-domain-spec =
     μ-loop
     loop-holds
     subobject-at-requires
-    takes-domain-requires
+    bars-domain-requires
     returns
     loop-less
     loop-again

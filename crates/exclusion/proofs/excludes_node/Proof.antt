@@ -3,57 +3,56 @@ use Prim.Native.Nat.{_-_}
 use mathlib.Core.Path.{sym, _∙_}
 use native.Mathlib.Omega.{arith}
 use lib.ListN.{length}
-use Rattle.model.specs.Exclusion.{takesNode, excludedNode}
-use Rattle.exclusion.proofs.Exclusions.{Undecided, undecided, none-left, readable-here, item-here, decided, passed}
+use Rattle.exclusion.proofs.Exclusions.{Undecided, undecided, none-left, readable-here, item-here, decided, passed, barsNode, node-barred}
 use Rattle.exclusion.proofs.excludes_node.Statement.{statement}
 use Rattle.exclusion.proofs.excludes_node.Tie as tie
 
 abbrev Inv-loop : tie.InvT-loop
-Inv-loop list node at₀ at = Undecided (takesNode (node .0)) list at
+Inv-loop list round node at₀ at = Undecided (barsNode round (node .0)) list at
 
 abbrev μ-loop : tie.MeasureT-loop
-μ-loop list node at₀ at = length list - at
+μ-loop list round node at₀ at = length list - at
 
 loop-holds : tie.Need-loop-holds Inv-loop μ-loop
 loop-holds c =
     let a = c .before .args in
-    undecided (takesNode (a .node .0)) (a .list .now) (c .before .pre)
+    undecided (barsNode (a .round) (a .node .0)) (a .list .now) (c .before .pre)
 
 subobject-at-requires : tie.Need-subobject-at-requires Inv-loop μ-loop
 subobject-at-requires c κs =
     let a = c .before .before .before .args in
-    readable-here (takesNode (a .node .0)) (a .list .now) (c .before .loop .at) (c .before .loop .inv) (c .loop-test .taken)
+    readable-here (barsNode (a .round) (a .node .0)) (a .list .now) (c .before .loop .at) (c .before .loop .inv) (c .loop-test .taken)
 
-takes-node-requires : tie.Need-takes-node-requires Inv-loop μ-loop
-takes-node-requires c κs = tt
+bars-node-requires : tie.Need-bars-node-requires Inv-loop μ-loop
+bars-node-requires c κs = tt
 
 returns : tie.Need-returns Inv-loop μ-loop
-unfolding excludedNode
 returns c =
     let a = c .before .before .before .before .before .before .args in
     let l = c .before .before .before .before .loop in
-    decided (takesNode (a .node .0)) (a .list .now) (l .at) (l .inv) (c .before .before .before .loop-test .taken) _ (c .before .before .subobject-at .ensures)
-    (sym (c .before .takes-node .ensures (a .list .now)) ∙ c .if1 .taken)
+    decided (barsNode (a .round) (a .node .0)) (a .list .now) (l .at) (l .inv) (c .before .before .before .loop-test .taken) _ (c .before .before .subobject-at .ensures)
+    (sym (c .before .bars-node .ensures (a .list .now)) ∙ c .if1 .taken)
+    ∙ node-barred (a .round) (a .node .0) (a .list .now)
 
 loop-less : tie.Need-loop-less Inv-loop μ-loop
 loop-less c =
     let a = c .before .before .before .before .before .before .args in
     let l = c .before .before .before .before .loop in
-    let is = item-here (takesNode (a .node .0)) (a .list .now) (l .at) (l .inv) (c .before .before .before .loop-test .taken) _ (c .before .before .subobject-at .ensures) in
+    let is = item-here (barsNode (a .round) (a .node .0)) (a .list .now) (l .at) (l .inv) (c .before .before .before .loop-test .taken) _ (c .before .before .subobject-at .ensures) in
     omega (arith, is .further, is .inside)
 
 loop-again : tie.Need-loop-again Inv-loop μ-loop
 loop-again c =
     let a = c .before .before .before .before .before .before .args in
     let l = c .before .before .before .before .loop in
-    passed (takesNode (a .node .0)) (a .list .now) (l .at) (l .inv) (c .before .before .before .loop-test .taken) _ (c .before .before .subobject-at .ensures)
-    (sym (c .before .takes-node .ensures (a .list .now)) ∙ c .if1 .left)
+    passed (barsNode (a .round) (a .node .0)) (a .list .now) (l .at) (l .inv) (c .before .before .before .loop-test .taken) _ (c .before .before .subobject-at .ensures)
+    (sym (c .before .bars-node .ensures (a .list .now)) ∙ c .if1 .left)
 
 returns-2 : tie.Need-returns-2 Inv-loop μ-loop
-unfolding excludedNode
 returns-2 c =
     let a = c .before .before .before .args in
-    none-left (takesNode (a .node .0)) (a .list .now) (c .before .loop .at) (c .before .loop .inv) (c .loop-test .left)
+    none-left (barsNode (a .round) (a .node .0)) (a .list .now) (c .before .loop .at) (c .before .loop .inv) (c .loop-test .left)
+    ∙ node-barred (a .round) (a .node .0) (a .list .now)
 
 pub excludes-node-spec : {M : Type 1} → statement M
 excludes-node-spec =
@@ -63,7 +62,7 @@ excludes-node-spec =
     μ-loop
     loop-holds
     subobject-at-requires
-    takes-node-requires
+    bars-node-requires
     returns
     loop-less
     loop-again

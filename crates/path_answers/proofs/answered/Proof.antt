@@ -13,7 +13,7 @@ use Rattle.path_answers.proofs.answered.Statement.{statement}
 use Rattle.path_answers.proofs.answered.Tie as tie
 use Rattle.path_answers.proofs.answered.Reads as reads
 use Rattle.path_answers.proofs.answered.Lts as lts
-use Rattle.path_search.proofs.bound.total_float.Reads as total-float-reads
+use Rattle.bound.proofs.total_float.Reads as total-float-reads
 use Rattle.path_answers.proofs.none_answer.Reads as none-answer-reads
 
 none-answer-requires : tie.Need-none-answer-requires
@@ -23,13 +23,13 @@ returns : tie.Need-returns
 returns c =
     let a = c .before .before .before .before .args in
     λ S given room is fits.
-    none-by (a .again) _ (greaterThan given (shortestPaths S)) room (a .sought .path) (c .none-answer .ensures) (is .missing (not-true _ (c .before .if1 .taken))) (is .cells)
+    none-by (a .sought .round) (a .again) _ (greaterThan given (shortestPaths S)) room (a .sought .path) (c .none-answer .ensures) (is .missing (not-true _ (c .before .if1 .taken))) (is .cells)
 
 total-float-requires : tie.Need-total-float-requires
 total-float-requires c κs = c .before .before .before .pre .1 (not-false _ (c .if1 .left))
 
-add-t10 : tie.Need-add-t10
-add-t10 c = search needs
+add-t11 : tie.Need-add-t11
+add-t11 c = search needs
 
 returns-2 : tie.Need-returns-2
 returns-2 c =
@@ -41,4 +41,4 @@ returns-2 c =
 
 pub answered-spec : {M : Type 1} → statement M
 answered-spec =
-    tie.close (tie.spec none-answer-requires returns total-float-requires add-t10 returns-2)
+    tie.close (tie.spec none-answer-requires returns total-float-requires add-t11 returns-2)

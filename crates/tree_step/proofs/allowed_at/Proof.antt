@@ -11,7 +11,7 @@ use Rattle.tree_step.proofs.allowed_at.Tie as tie
 returns : tie.Need-returns
 returns c =
     let a = c .before .before .args in
-    domain-excluded (a .exclude .now) (a .leg .excluded) (a .leg .pinned) (a .leg .pin .0) (a .node .0) (c .if1 .taken)
+    domain-excluded (a .leg .round) (a .exclude .now) (a .leg .excluded) (a .leg .pinned) (a .leg .pin .0) (a .node .0) (c .if1 .taken)
 
 keeps-pin-requires : tie.Need-keeps-pin-requires
 keeps-pin-requires c κs = search needs
@@ -19,7 +19,7 @@ keeps-pin-requires c κs = search needs
 returns-2 : tie.Need-returns-2
 returns-2 c =
     let a = c .before .before .before .before .before .args in
-    pin-broken (a .exclude .now) (a .leg .excluded) (a .leg .pinned) (a .leg .pin .0) (a .node .0) (c .before .before .before .if1 .left)
+    pin-broken (a .leg .round) (a .exclude .now) (a .leg .excluded) (a .leg .pinned) (a .leg .pin .0) (a .node .0) (c .before .before .before .if1 .left)
     (sym (c .before .keeps-pin .ensures) ∙ not-true _ (c .if2 .taken))
 
 excludes-node-requires : tie.Need-excludes-node-requires
@@ -29,7 +29,7 @@ returns-3 : tie.Need-returns-3
 returns-3 c =
     let a = c .before .before .before .before .before .before .args in
     ap not (c .excludes-node .ensures)
-    ∙ node-decides (a .exclude .now) (a .leg .excluded) (a .leg .pinned) (a .leg .pin .0) (a .node .0) (c .before .before .before .before .if1 .left)
+    ∙ node-decides (a .leg .round) (a .exclude .now) (a .leg .excluded) (a .leg .pinned) (a .leg .pin .0) (a .node .0) (c .before .before .before .before .if1 .left)
     (sym (c .before .before .keeps-pin .ensures) ∙ not-false _ (c .before .if2 .left))
 
 pub allowed-at-spec : {M : Type 1} → statement M

@@ -7,7 +7,7 @@ use Prim.Native.Nat.{ℕ, suc, _+_}
 use lib.ListN.{getD}
 use Rattle.model.specs.declared.Domain.{Domain}
 use Rattle.model.specs.Subobject.{subobjects}
-use Rattle.model.specs.Exclusion.{excludedDomain}
+use Rattle.model.specs.Exclusion.{inForce, excludedDomain}
 use Rattle.records.specs.Layout.{layoutOf}
 use Rattle.vspt.proofs.Sequences.{domain-inside, area-short, leg-for}
 use borrow.Author.Needs.{needs}
@@ -38,50 +38,50 @@ excludes-domain-requires c κs =
     let a = start .args in
     (start .pre .0 .exclude-right, rw (c .domain-at .ensures) (area-short (layoutOf (a .layout)) (a .s .now) (a .exclude .now) (a .q) (start .pre .0) (a .i) (start .pre .1)))
 
-mul-t16 : tie.Need-mul-t16
-mul-t16 c = search needs
+mul-t17 : tie.Need-mul-t17
+mul-t17 c = search needs
 
-element-copy-out-t23 : tie.Need-element-copy-out-t23
-element-copy-out-t23 c = search needs
+element-copy-out-t24 : tie.Need-element-copy-out-t24
+element-copy-out-t24 c = search needs
 
-mul-t24 : tie.Need-mul-t24
-mul-t24 c = search needs
+mul-t25 : tie.Need-mul-t25
+mul-t25 c = search needs
 
-element-copy-out-t27 : tie.Need-element-copy-out-t27
-element-copy-out-t27 c = search needs
+element-copy-out-t28 : tie.Need-element-copy-out-t28
+element-copy-out-t28 c = search needs
 
-array-read-t31 : tie.Need-array-read-t31
-array-read-t31 c = search needs
+array-read-t32 : tie.Need-array-read-t32
+array-read-t32 c = search needs
 
-mul-t32 : tie.Need-mul-t32
-mul-t32 c = search needs
+mul-t33 : tie.Need-mul-t33
+mul-t33 c = search needs
 
-array-copy-out-t35 : tie.Need-array-copy-out-t35
-array-copy-out-t35 c = search needs
+array-copy-out-t36 : tie.Need-array-copy-out-t36
+array-copy-out-t36 c = search needs
 
-mul-t36 : tie.Need-mul-t36
-mul-t36 c = search needs
+mul-t37 : tie.Need-mul-t37
+mul-t37 c = search needs
 
-element-copy-out-t39 : tie.Need-element-copy-out-t39
-element-copy-out-t39 c = search needs
+element-copy-out-t40 : tie.Need-element-copy-out-t40
+element-copy-out-t40 c = search needs
 
-add-t40 : tie.Need-add-t40
-add-t40 c = search needs
+add-t41 : tie.Need-add-t41
+add-t41 c = search needs
 
-mul-t41 : tie.Need-mul-t41
-mul-t41 c = search needs
+mul-t42 : tie.Need-mul-t42
+mul-t42 c = search needs
 
-element-copy-out-t44 : tie.Need-element-copy-out-t44
-element-copy-out-t44 c = search needs
+element-copy-out-t45 : tie.Need-element-copy-out-t45
+element-copy-out-t45 c = search needs
 
-add-t45 : tie.Need-add-t45
-add-t45 c = search needs
+add-t46 : tie.Need-add-t46
+add-t46 c = search needs
 
-mul-t46 : tie.Need-mul-t46
-mul-t46 c = search needs
+mul-t47 : tie.Need-mul-t47
+mul-t47 c = search needs
 
-element-copy-out-t49 : tie.Need-element-copy-out-t49
-element-copy-out-t49 c = search needs
+element-copy-out-t50 : tie.Need-element-copy-out-t50
+element-copy-out-t50 c = search needs
 
 returns : tie.Need-returns
 returns c =
@@ -94,9 +94,10 @@ returns c =
     (record {
       from-made = refl;
       to-made = c .before .before .before .before .before .before .before .before .before .next-domain .ensures;
+      round-made = refl;
       excluded-made =
           c .before .before .before .before .before .before .excludes-domain .ensures
-          ∙ ap (excludedDomain (subobjects (a .exclude .now))) (c .before .before .before .before .before .before .before .domain-at .ensures);
+          ∙ ap (excludedDomain (inForce (a .q .round) (subobjects (a .exclude .now)))) (c .before .before .before .before .before .before .before .domain-at .ensures);
       pinned-made = refl;
       pin-made = refl;
       first-made = refl;
@@ -116,19 +117,19 @@ leg-at-spec =
     cast-domain-at
     domain-at-requires
     excludes-domain-requires
-    mul-t16
-    element-copy-out-t23
-    mul-t24
-    element-copy-out-t27
-    array-read-t31
-    mul-t32
-    array-copy-out-t35
-    mul-t36
-    element-copy-out-t39
-    add-t40
-    mul-t41
-    element-copy-out-t44
-    add-t45
-    mul-t46
-    element-copy-out-t49
+    mul-t17
+    element-copy-out-t24
+    mul-t25
+    element-copy-out-t28
+    array-read-t32
+    mul-t33
+    array-copy-out-t36
+    mul-t37
+    element-copy-out-t40
+    add-t41
+    mul-t42
+    element-copy-out-t45
+    add-t46
+    mul-t47
+    element-copy-out-t50
     returns)

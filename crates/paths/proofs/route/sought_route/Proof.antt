@@ -3,11 +3,15 @@
 use mathlib.Core.Path.{_≡_, refl, sym, ap, subst, _∙_}
 use native.Mathlib.Omega.{arith}
 use Prim.Native.Nat.{ℕ, suc, _≤_}
+use Rattle.model.specs.declared.Round.{Round}
 use Rattle.model.specs.Profile.{Layout, version1}
-use Rattle.records.specs.Layout.{layoutOf, Sound}
+use Rattle.model.specs.Path.{shortestPaths}
+use Rattle.model.specs.Calls.{firstOf, greaterThan}
+use Rattle.path_answers.specs.Routed.{noneNumber, RoutedBy}
+use Rattle.records.specs.Layout.{Sound}
 use Rattle.profile.proofs.Access.{version1-sound}
-use Rattle.request.specs.Query.{searchFor, Ready}
-use Rattle.path_search.specs.Sought.{SoughtIs}
+use Rattle.request.specs.Query.{searchFor, inRound, roundFor, Ready}
+use Rattle.path_search.specs.Sought.{SoughtFor}
 use borrow.Author.Needs.{needs}
 use Rattle.paths.proofs.route.sought_route.Statement.{statement}
 use Rattle.paths.proofs.route.sought_route.Tie as tie
@@ -30,14 +34,17 @@ search-requires c κs =
 answered-requires : tie.Need-answered-requires
 answered-requires c κs =
     let start = c .before .before .before .before .before in
-    (omega (arith, start .pre .0 .most), λ t. (c .search .ensures .there t) .small)
+    (omega (arith, start .pre .0 .most), λ t. (c .search .ensures .is .there t) .small)
 
 returns : tie.Need-returns
 returns c =
     let a = c .before .before .before .before .before .before .args in
+    let x = c .before .search in
+    let for = subst (λ (L : Layout). SoughtFor L (a .profile .now) (a .exclude .now) (a .q) (a .given .now) (x .result)) (c .before .before .first-version .ensures) (x .ensures) in
+    let S = searchFor version1 (a .profile .now) (a .exclude .now) (inRound (roundFor version1 (a .profile .now) (a .exclude .now) (a .q)) (a .q)) in
     λ room fits.
-    c .answered .ensures (searchFor version1 (a .profile .now) (a .exclude .now) (a .q)) (a .given .now) room
-    (subst (λ (L : Layout). SoughtIs (searchFor L (a .profile .now) (a .exclude .now) (a .q)) (a .given .now) (suc (a .q .count)) (c .before .search .result)) (c .before .before .first-version .ensures) (c .before .search .ensures)) fits
+    subst (λ (y : Round). RoutedBy (firstOf y (noneNumber (a .again)) (greaterThan (a .given .now) (shortestPaths S))) room (c .answered .result)) (for .round-is)
+    (c .answered .ensures S (a .given .now) room (for .is) fits)
 
 pub sought-route-spec : {M : Type 1} → statement M
 sought-route-spec =

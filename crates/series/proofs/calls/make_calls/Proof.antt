@@ -11,9 +11,9 @@ use lib.ListN.{length, getD, take}
 use lib.Seq.{paste}
 use Rattle.model.specs.Answers.{numbersOfPath}
 use Rattle.request.specs.Checked.{requestOf}
-use Rattle.path_answers.specs.Numbers.{fourOf}
+use Rattle.path_answers.specs.Numbers.{fiveOf}
 use Rattle.series.proofs.Forms.{Formed, formed}
-use Rattle.series.proofs.Steps.{Progress, begin, four-long, keptAfter, kept-new, kept-old, room-here, numbers-here, turn, done}
+use Rattle.series.proofs.Steps.{Progress, begin, five-long, keptAfter, kept-new, kept-old, room-here, numbers-here, turn, done}
 use Rattle.series.proofs.calls.make_calls.Statement.{statement}
 use Rattle.series.proofs.calls.make_calls.Tie as tie
 
@@ -32,12 +32,12 @@ fit c = formed (c .before .before .before .before .before .before .before .befor
 room : (c : tie.In-loop Inv-loop μ-loop) → c .before .loop .at + getD (c .before .before .before .before .before .before .before .before .before .args .sizes .now) (c .before .loop .j) 0 ≤ length (c .before .loop .buffers)
 room c = room-here _ _ _ _ _ _ _ _ _ _ _ (fit (c .before)) (c .before .loop .inv) (omega (arith, c .loop-test .taken))
 
-fours : (c : tie.In-loop Inv-loop μ-loop) → 4 * c .before .loop .j + 4 ≤ length (c .before .loop .numbers)
-fours c = numbers-here _ _ _ _ _ _ _ _ _ _ _ (fit (c .before)) (c .before .loop .inv) (omega (arith, c .loop-test .taken))
+fives : (c : tie.In-loop Inv-loop μ-loop) → 5 * c .before .loop .j + 5 ≤ length (c .before .loop .numbers)
+fives c = numbers-here _ _ _ _ _ _ _ _ _ _ _ (fit (c .before)) (c .before .loop .inv) (omega (arith, c .loop-test .taken))
 
 -- and the numbers of the turn fit
-fours-fit : (c : tie.In-loop Inv-loop μ-loop) → 4 * c .before .loop .j < 18446744073709551616
-fours-fit c = omega (arith, fours c)
+fives-fit : (c : tie.In-loop Inv-loop μ-loop) → 5 * c .before .loop .j < 18446744073709551616
+fives-fit c = omega (arith, fives c)
 
 at-fits : (c : tie.In-loop Inv-loop μ-loop) → c .before .loop .at + getD (c .before .before .before .before .before .before .before .before .before .args .sizes .now) (c .before .loop .j) 0 < 18446744073709551616
 at-fits c = omega (arith, room c)
@@ -51,7 +51,7 @@ loop-holds c =
     begin _ (a .kinds .now) (a .sizes .now) (a .buffers .now) (a .numbers .now) _ refl (formed (a .kinds .now) (a .sizes .now) (length (a .buffers .now)) (length (a .numbers .now)) (c .before .before .before .before .before .before .before .pre))
 
 mul-room : tie.Need-mul-room Inv-loop μ-loop
-mul-room c = omega (arith, fours c)
+mul-room c = omega (arith, fives c)
 
 shared-slice-read-room : tie.Need-shared-slice-read-room Inv-loop μ-loop
 shared-slice-read-room c = omega (arith, fit (c .before .before) .as-many, c .before .loop-test .taken)
@@ -68,8 +68,8 @@ slice-aggregate-call c = sym (c .before .before .before .before .loop .inv .last
 call-requires : tie.Need-call-requires Inv-loop μ-loop
 call-requires c κs = omega (arith, c .before .before .before .before .loop .inv .last-long, c .before .before .before .before .loop .inv .few)
 
-four-of-requires : tie.Need-four-of-requires Inv-loop μ-loop
-four-of-requires c κs = c .before .call .ensures .real
+five-of-requires : tie.Need-five-of-requires Inv-loop μ-loop
+five-of-requires c κs = c .before .call .ensures .real
 
 slice-aggregate-put : tie.Need-slice-aggregate-put Inv-loop μ-loop
 slice-aggregate-put c = omega (arith, c .before .before .before .before .call .ensures .long, c .before .before .before .before .before .before .before .before .before .loop .inv .last-long)
@@ -80,17 +80,17 @@ put-requires c κs =
     (omega (arith, room (c .before .before .before .before .before .before .before .before), by .fits), omega (arith, by .few, by .long, c .before .before .before .before .before .before .before .before .before .loop .inv .last-long))
 
 mul-put : tie.Need-mul-put Inv-loop μ-loop
-mul-put c = omega (arith, fours-fit (c .before .before .before .before .before .before .before .before .before .before .before .before))
+mul-put c = omega (arith, fives-fit (c .before .before .before .before .before .before .before .before .before .before .before .before))
 
--- the four numbers
-told : (c : tie.After-four-of Inv-loop μ-loop) → length (c .four-of .result) ≡ 4
-told c = ap length (c .four-of .ensures) ∙ four-long (c .before .before .call .result .answer)
+-- the five numbers
+told : (c : tie.After-five-of Inv-loop μ-loop) → length (c .five-of .result) ≡ 5
+told c = ap length (c .five-of .ensures) ∙ five-long (c .before .before .call .result .answer)
 
 slice-aggregate-put-2 : tie.Need-slice-aggregate-put-2 Inv-loop μ-loop
 slice-aggregate-put-2 c = sym (told (c .before .before .before .before .before .before .before))
 
 put-requires-2 : tie.Need-put-requires-2 Inv-loop μ-loop
-put-requires-2 c κs = (omega (arith, fours (c .before .before .before .before .before .before .before .before .before .before .before .before .before)), omega (arith, told (c .before .before .before .before .before .before .before)))
+put-requires-2 c κs = (omega (arith, fives (c .before .before .before .before .before .before .before .before .before .before .before .before .before)), omega (arith, told (c .before .before .before .before .before .before .before)))
 
 array-read-if1 : tie.Need-array-read-if1 Inv-loop μ-loop
 array-read-if1 c = search needs
@@ -109,23 +109,23 @@ loop-again c =
     let l = c .before .before .before .before .before .before .before .before .before .before .before .before .before .before .before .before .before .before .loop in
     let R = c .before .before .before .before .before .before .before .before .before .before .before .before .before .call .result in
     let by = c .before .before .before .before .before .before .before .before .before .before .before .before .before .call .ensures in
-    let four = c .before .before .before .before .before .before .before .before .before .before .before .four-of in
+    let five = c .before .before .before .before .before .before .before .before .before .before .before .five-of in
     let kept : (take (c .if1 .n) (c .if1 .last) ≡ keptAfter R (take (l .n) (l .last))) × (length (c .if1 .last) ≡ 17) × (c .if1 .n ≤ 17) =
     ⊎-elim
     (λ w. (
-      kept-new R (take (l .n) (l .last)) (c .if1 .last) (c .if1 .n) (sym (ap (λ f. getD f 0 0) (four .ensures)) ∙ w .0 .taken) (w .1) (w .2),
+      kept-new R (take (l .n) (l .last)) (c .if1 .last) (c .if1 .n) (sym (ap (λ f. getD f 0 0) (five .ensures)) ∙ w .0 .taken) (w .1) (w .2),
       ap length (w .1) ∙ by .long,
       omega (arith, w .2, by .few),
     ))
     (λ w. (
-      kept-old R (take (l .n) (l .last)) (c .if1 .last) (c .if1 .n) (λ z. w .0 .left (ap (λ f. getD f 0 0) (four .ensures) ∙ z)) (λ i. take (w .2 i) (w .1 i)),
+      kept-old R (take (l .n) (l .last)) (c .if1 .last) (c .if1 .n) (λ z. w .0 .left (ap (λ f. getD f 0 0) (five .ensures) ∙ z)) (λ i. take (w .2 i) (w .1 i)),
       ap length (w .1) ∙ l .inv .last-long,
       omega (arith, w .2, l .inv .few),
     ))
     (c .if1 .came) in
     turn _ _ _ _ _ _ _ _ _ _ _ (fit (c .before .before .before .before .before .before .before .before .before .before .before .before .before .before .before .before .before .before)) (l .inv) (omega (arith, c .before .before .before .before .before .before .before .before .before .before .before .before .before .before .before .before .before .loop-test .taken)) R by _ _ (c .if1 .last) (c .if1 .n)
     (c .before .before .before .before .before .before .before .before .put .ensures)
-    (c .before .before .before .put2 .ensures ∙ ap (λ f. paste (l .numbers) (4 * l .j) f 4) (four .ensures))
+    (c .before .before .before .put2 .ensures ∙ ap (λ f. paste (l .numbers) (5 * l .j) f 5) (five .ensures))
     (kept .0)
     (kept .1)
     (kept .2)
@@ -152,7 +152,7 @@ make-calls-spec =
     shared-slice-read-call
     slice-aggregate-call
     call-requires
-    four-of-requires
+    five-of-requires
     slice-aggregate-put
     put-requires
     mul-put

@@ -1,0 +1,31 @@
+-- `admissible` meets its contract, test by test.
+-- Assumes nothing.
+use mathlib.Core.Path.{_≡_, refl, sym, ap, _∙_}
+use mathlib.Core.Bool.{Bool, true, false, not, _&&_}
+use native.Mathlib.Omega.{arith}
+use borrow.Author.Tests.{eq-eqb, ne-eqb}
+use Rattle.model.specs.Path.{keepsBound}
+use Rattle.reaches.specs.Reaches.{unreachable}
+use Rattle.bound.proofs.admissible.Statement.{statement}
+use Rattle.bound.proofs.admissible.Tie as tie
+use Rattle.bound.proofs.admissible.Reads as reads
+use Rattle.bound.proofs.admissible.Lts as lts
+use Rattle.bound.proofs.keeps_bound.Reads as keeps-bound-reads
+
+returns : tie.Need-returns
+returns c =
+    let a = c .before .args in
+    sym (ap (λ (b : Bool). not b && keepsBound (a .limits) (a .here)) (eq-eqb (a .here) unreachable (c .if1 .taken)))
+
+keeps-bound-requires : tie.Need-keeps-bound-requires
+keeps-bound-requires c κs =
+    let start = c .before in
+    (start .pre .0 (c .if1 .left), start .pre .1)
+
+returns-2 : tie.Need-returns-2
+returns-2 c =
+    let a = c .before .before .args in
+    c .keeps-bound .ensures ∙ sym (ap (λ (b : Bool). not b && keepsBound (a .limits) (a .here)) (ne-eqb (a .here) unreachable (c .before .if1 .left)))
+
+pub admissible-spec : {M : Type 1} → statement M
+admissible-spec = tie.close (tie.spec returns keeps-bound-requires returns-2)

@@ -1,0 +1,3 @@
+-- What the proofs of several functions share, and the path search with them.
+pub mod Source
+mod Settling
