@@ -1,35 +1,16 @@
--- What the exports of first, next and the series store, from what the calls answer: the five numbers of an answer, and a run's answer told. By the cases of an answer.
-use mathlib.Core.Path.{_≡_, refl, ap, subst, _∙_}
-use mathlib.Core.List.{List, [], _∷_}
+-- What the exports of first, next and the series store, from what the calls answer, for the limits that were given.
+use mathlib.Core.Path.{_≡_, ap, subst, _∙_}
+use mathlib.Core.List.{List}
 use Prim.Native.Nat.{ℕ}
-use lib.ListN.{getD}
 use Rattle.model.specs.declared.Limits.{Limits}
 use Rattle.model.specs.declared.PathAnswer.{PathAnswer}
-use Rattle.model.specs.declared.PathAnswer.the-variants.{Found, NoPath, End, Refused}
 use Rattle.model.specs.Lists.{over}
 use Rattle.model.specs.Request.{Request}
 use Rattle.model.specs.Answers.{Numbers, numbersOfPath}
 use Rattle.model.specs.Calls.{Outcome}
-use Rattle.path_answers.specs.Numbers.{fiveOf}
 use Rattle.series.specs.declared.SeriesAnswer.{SeriesAnswer}
 use Rattle.series.specs.Runs.{numberOfSeries, RunIs}
 use Rattle.calculator.specs.Exports.{PathExport, SeriesExport}
-
--- ---- the five numbers of an answer, told and stored
-
-abbrev rest : List ℕ → List ℕ
-rest five = getD five 1 0 ∷ getD five 2 0 ∷ getD five 3 0 ∷ getD five 4 0 ∷ []
-
-told-others : (a : PathAnswer) → rest (fiveOf (numbersOfPath a)) ≡ (numbersOfPath a) .others
-told-others (Found n x y) = refl
-told-others NoPath = refl
-told-others End = refl
-told-others (Refused r) = refl
-
-pub told
-    : (a : PathAnswer) (five : List ℕ) → five ≡ fiveOf (numbersOfPath a)
-    → (getD five 0 0 ≡ (numbersOfPath a) .answer) × (getD five 1 0 ∷ getD five 2 0 ∷ getD five 3 0 ∷ getD five 4 0 ∷ [] ≡ (numbersOfPath a) .others)
-told a five is = (ap (λ (l : List ℕ). getD l 0 0) is, ap rest is ∙ told-others a)
 
 -- ---- the limits are those that the call was given
 

@@ -2,30 +2,16 @@
 use crate::limits::limits_of;
 use model::DomainIndex;
 use model::NodeAddress;
-use model::PathAnswer;
-use path_answers::numbers::five_of;
+use path_answers::numbers::tell;
 use paths::first;
 use paths::next;
 use series::SeriesAnswer;
 use series::run;
-ghost use mathlib.Core.Path.{_≡_};
 ghost use lib.ListN.{length};
-ghost use Rattle.model.specs.Answers.{numbersOfPath};
 ghost use Rattle.model.specs.Calls as Calls;
 ghost use Rattle.request.specs.Bits.{limitsOfBits};
 ghost use Rattle.request.specs.Checked.{requestOf};
-ghost use Rattle.path_answers.specs.Numbers.{Real};
 ghost use Rattle.calculator.specs.Exports.{PathExport, SeriesExport};
-
-// The number of an answer for a path; the place, the total, the bits of its float and the round are stored.
-fn tell(answer: PathAnswer, numbers: &mut [u32; 4]) -> u32
-    requires { ⌜ Real answer ⌝ }
-    ensures { λ r. ⌜ (r ≡ numbersOfPath answer .answer) × (now (numbers .exit) ≡ numbersOfPath answer .others) ⌝ }
-{
-    let five = five_of(answer);
-    *numbers = [five[1], five[2], five[3], five[4]];
-    five[0]
-}
 
 // numbers: place, total, bits of the total's float, round
 #[no_mangle]

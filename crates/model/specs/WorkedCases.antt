@@ -90,16 +90,16 @@ throughU = 0x20 ∷ 0x04 ∷ 0xfb ∷ 0xf1 ∷ 0x01 ∷ 0x08 ∷ 0xc0 ∷ 0x00 �
 back : List ℕ
 back = 0x05 ∷ 0x08 ∷ 0x00 ∷ 0x00 ∷ 0x00 ∷ 0x00 ∷ 0xfb ∷ 0xf1 ∷ 0x05 ∷ 0x08 ∷ 0x00 ∷ 0x00 ∷ 0x00 ∷ 0x00 ∷ 0xfb ∷ 0xf0 ∷ []
 
--- exclusions of one node, with X clear and with X set
+-- the exclusion of one node: demanded (X clear), and only desired (X set)
 without : ℕ → List ℕ
 without last = 0x01 ∷ 0x08 ∷ 0xc0 ∷ 0x00 ∷ 0x02 ∷ last ∷ 0x20 ∷ 0x01 ∷ []
 
-ratherWithout : ℕ → List ℕ
-ratherWithout last = 0x81 ∷ 0x08 ∷ 0xc0 ∷ 0x00 ∷ 0x02 ∷ last ∷ 0x20 ∷ 0x01 ∷ []
+desiredWithout : ℕ → List ℕ
+desiredWithout last = 0x81 ∷ 0x08 ∷ 0xc0 ∷ 0x00 ∷ 0x02 ∷ last ∷ 0x20 ∷ 0x01 ∷ []
 
 -- AS 64511, which W lacks, with X set
-ratherWithout64511 : List ℕ
-ratherWithout64511 = 0xa0 ∷ 0x04 ∷ 0xfb ∷ 0xff ∷ []
+desiredWithout64511 : List ℕ
+desiredWithout64511 = 0xa0 ∷ 0x04 ∷ 0xfb ∷ 0xff ∷ []
 
 plain : Limits
 plain = record { bandwidth = ofBits binary32 0x42c80000; bound = ofBits binary32 0; bounded = false }
@@ -260,24 +260,24 @@ starred =
 -- document 02's request [1] on W
 pub desired : List Row
 desired =
-    -- Q rather not: the first round has SPUZ
-    row (series (onW toEnd (ratherWithout 0x0c) plain) (calls 1)) (replies (gives SPUZ ∷ ends ∷ []))
-    -- neither P nor Q if it can be helped: it can't, so both may be used, and the tally adds both rounds
-    ∷ row (series (onW toEnd (ratherWithout 0x0b ++ ratherWithout 0x0c) plain) (calls 3)) (replies (givesIn 2 SPUZ ∷ givesIn 2 SQTZ ∷ givesIn 2 SQUZ ∷ ends ∷ []))
-    ∷ row (recorded (onW toEnd (ratherWithout 0x0b ++ ratherWithout 0x0c) plain) (calls 3)) (replies (givesIn 2 SPUZ ∷ givesIn 2 SQTZ ∷ givesIn 2 SQUZ ∷ ends ∷ []))
-    ∷ row (building (onW toEnd (ratherWithout 0x0b ++ ratherWithout 0x0c) plain) 5) (entriesBuilt (treeW 16 2))
-    -- without P, and Q rather not: the second round keeps the exclusion of P
-    ∷ row (series (onW toEnd (without 0x0b ++ ratherWithout 0x0c) plain) (calls 2)) (replies (givesIn 2 SQTZ ∷ givesIn 2 SQUZ ∷ ends ∷ []))
-    -- without P and without Q: one round, no path
+    -- the exclusion of Q desired: the first round has SPUZ
+    row (series (onW toEnd (desiredWithout 0x0c) plain) (calls 1)) (replies (gives SPUZ ∷ ends ∷ []))
+    -- those of P and Q desired: the first round has no path, so the second uses both, and the tally adds both rounds
+    ∷ row (series (onW toEnd (desiredWithout 0x0b ++ desiredWithout 0x0c) plain) (calls 3)) (replies (givesIn 2 SPUZ ∷ givesIn 2 SQTZ ∷ givesIn 2 SQUZ ∷ ends ∷ []))
+    ∷ row (recorded (onW toEnd (desiredWithout 0x0b ++ desiredWithout 0x0c) plain) (calls 3)) (replies (givesIn 2 SPUZ ∷ givesIn 2 SQTZ ∷ givesIn 2 SQUZ ∷ ends ∷ []))
+    ∷ row (building (onW toEnd (desiredWithout 0x0b ++ desiredWithout 0x0c) plain) 5) (entriesBuilt (treeW 16 2))
+    -- that of P demanded and that of Q desired: the second round keeps the exclusion of P
+    ∷ row (series (onW toEnd (without 0x0b ++ desiredWithout 0x0c) plain) (calls 2)) (replies (givesIn 2 SQTZ ∷ givesIn 2 SQUZ ∷ ends ∷ []))
+    -- both demanded: one round, no path
     ∷ row (series (onW toEnd (without 0x0b ++ without 0x0c) plain) (calls 0)) (replies (none-there ∷ []))
     ∷ row (building (onW toEnd (without 0x0b ++ without 0x0c) plain) 5)
     (entriesBuilt (record { numbers = numbers 0 (0 ∷ 5 ∷ 8 ∷ 1 ∷ []); written = cut 0 S ∷ cut 1 P ∷ cut 1 Q ∷ at 2 T 2 ∷ at 2 U 3 ∷ [] }))
-    -- without Q, and U rather not: the first round has only SPTZ, of total 15, which a bound of 14.0 rules out
-    ∷ row (series (onW toEnd (without 0x0c ++ ratherWithout 0x16) (bounded 0x41600000)) (calls 1)) (replies (givesIn 2 SPUZ ∷ ends ∷ []))
-    -- what W lacks, rather not: nothing changes but, where there is no admissible path, round and tally of the tree
-    ∷ row (building (onW toEnd ratherWithout64511 plain) 5) (entriesBuilt (treeW 8 1))
-    ∷ row (building (onW toEnd ratherWithout64511 (bounded 0x41500000)) 5) (entriesBuilt (treeW 16 2))
-    ∷ row (starting (onW toEnd ratherWithout64511 (bounded 0x41500000)) 4) (path no-path)
+    -- that of Q demanded and that of U desired: the first round has only SPTZ, of total 15, which a bound of 14.0 rules out
+    ∷ row (series (onW toEnd (without 0x0c ++ desiredWithout 0x16) (bounded 0x41600000)) (calls 1)) (replies (givesIn 2 SPUZ ∷ ends ∷ []))
+    -- the exclusion of what W lacks desired: nothing changes but, where there is no admissible path, round and tally of the tree
+    ∷ row (building (onW toEnd desiredWithout64511 plain) 5) (entriesBuilt (treeW 8 1))
+    ∷ row (building (onW toEnd desiredWithout64511 (bounded 0x41500000)) 5) (entriesBuilt (treeW 16 2))
+    ∷ row (starting (onW toEnd desiredWithout64511 (bounded 0x41500000)) 4) (path no-path)
     ∷ []
 
 pub table : List Row
@@ -285,5 +285,5 @@ table = starred ++ desired
 
 -- every row holds
 pub worked-cases : map (λ (r : Row). outcome (r .case)) table ≡ map (λ (r : Row). r .expected) table
-unfolding profileW profileOspf toEnd toEnd5 throughU back without ratherWithout ratherWithout64511 plain bounded above100 onW short whole alone bookOf outcome numbers through at cut costs14 treeW calls givesIn gives ends none-there SPUZ SPTZ SQTZ SQUZ three no-path row starred desired table countFrom keep all any each among allDifferent sum least same below insert different over number bytesOf allZero inTurn inRanges misplaced Profile.headerWrong Profile.countsWrong Profile.lengthWrong Profile.headerVerdict Profile.domainAt Profile.domains Profile.areaLengthFits Profile.domainMalformed Profile.domainMisordered Profile.domainVerdict Profile.hopAt Profile.hops Profile.hopMalformed Profile.hopMisordered Profile.hopVerdict Profile.entryNodes Profile.crowded Profile.crowdedVerdict Profile.profileVerdict Subobject.known Subobject.lengthFits Subobject.subobjectVerdict Subobject.namedAt Subobject.formFrom Subobject.formVerdict Subobject.subobjectsFrom Subobject.subobjects ofSystem ofArea enter name readOne readAll meaning writtenFrom written stops unwritable inForce someDesired excludedDomain excludedNode units inRange atLeast atMost floatOf requestVerdict sequenceOf searchIn roundOf searchOf Path.legs Path.keepsBound Path.allowed Path.hopsFrom Path.suffixes Path.paths Path.admissible Path.cheapest Path.shortestPaths Tree.entriesAt Tree.entry Tree.tree Tree.tally readingOf readInclude writeList buildTree first greaterThan next book run ofBits toBits ofFields odd size span climb ofInt round isNan Ieee.units trailingZeros
+unfolding profileW profileOspf toEnd toEnd5 throughU back without desiredWithout desiredWithout64511 plain bounded above100 onW short whole alone bookOf outcome numbers through at cut costs14 treeW calls givesIn gives ends none-there SPUZ SPTZ SQTZ SQUZ three no-path row starred desired table countFrom keep all any each among allDifferent sum least same below insert different over number bytesOf allZero inTurn inRanges misplaced Profile.headerWrong Profile.countsWrong Profile.lengthWrong Profile.headerVerdict Profile.domainAt Profile.domains Profile.areaLengthFits Profile.domainMalformed Profile.domainMisordered Profile.domainVerdict Profile.hopAt Profile.hops Profile.hopMalformed Profile.hopMisordered Profile.hopVerdict Profile.entryNodes Profile.crowded Profile.crowdedVerdict Profile.profileVerdict Subobject.known Subobject.lengthFits Subobject.subobjectVerdict Subobject.namedAt Subobject.formFrom Subobject.formVerdict Subobject.subobjectsFrom Subobject.subobjects ofSystem ofArea enter name readOne readAll meaning writtenFrom written stops unwritable inForce someDesired excludedDomain excludedNode units inRange atLeast atMost floatOf requestVerdict sequenceOf searchIn roundOf searchOf Path.legs Path.keepsBound Path.allowed Path.hopsFrom Path.suffixes Path.paths Path.admissible Path.cheapest Path.shortestPaths Tree.entriesAt Tree.entry Tree.tree Tree.tally readingOf readInclude writeList buildTree first greaterThan next book run ofBits toBits ofFields odd size span climb ofInt round isNan Ieee.units trailingZeros
 worked-cases = refl

@@ -7,7 +7,7 @@ use Prim.Native.Nat.{ℕ, suc, _≤_, _<_}
 use native.Mathlib.Omega.{arith}
 use lib.Dec.{ltb}
 use lib.Ieee.{Float, binary32, toBits, isNan}
-use lib.ListN.{length, take}
+use lib.ListN.{length, getD, take}
 use Rattle.model.specs.declared.Refusal.{Refusal}
 use Rattle.model.specs.declared.Round.{Round}
 use Rattle.model.specs.declared.PathAnswer.{PathAnswer}
@@ -20,6 +20,7 @@ use Rattle.model.specs.Calls.{Outcome, nothing, found, firstOf, greaterThan}
 use Rattle.laws.proofs.Tests.{and-both}
 use Rattle.laws.proofs.Split.{answer-some, answer-none}
 use Rattle.path_search.specs.declared.Sought.{Sought}
+use Rattle.path_answers.specs.Numbers.{fiveOf}
 use Rattle.path_answers.specs.declared.Routed.{Routed}
 use Rattle.path_search.specs.Sought.{SoughtPath, SoughtIs}
 use Rattle.path_answers.specs.Routed.{noneAnswer, noneNumber, RoutedBy}
@@ -89,3 +90,19 @@ found-by number S given count count′ room sought x p long few fits is float ri
       long = long;
       real = λ total y round e. ap isNan (sym (found-float (sought .total) total x y (sought .round) round e)) ∙ no-nan x right;
     }
+
+-- ---- the five numbers of an answer, told and stored
+
+abbrev rest : List ℕ → List ℕ
+rest five = getD five 1 0 ∷ getD five 2 0 ∷ getD five 3 0 ∷ getD five 4 0 ∷ []
+
+told-others : (a : PathAnswer) → rest (fiveOf (numbersOfPath a)) ≡ (numbersOfPath a) .others
+told-others (Found n x y) = refl
+told-others NoPath = refl
+told-others End = refl
+told-others (Refused r) = refl
+
+pub told
+    : (a : PathAnswer) (five : List ℕ) → five ≡ fiveOf (numbersOfPath a)
+    → (getD five 0 0 ≡ (numbersOfPath a) .answer) × (getD five 1 0 ∷ getD five 2 0 ∷ getD five 3 0 ∷ getD five 4 0 ∷ [] ≡ (numbersOfPath a) .others)
+told a five is = (ap (λ (l : List ℕ). getD l 0 0) is, ap rest is ∙ told-others a)

@@ -31,3 +31,13 @@ pub fn five_of(answer: PathAnswer) -> [u32; 5]
         PathAnswer::Refused(r) => [r.number, r.place, 0, 0, 0],
     }
 }
+
+// The number of an answer for a path; the place, the total, the bits of its float and the round are stored.
+pub fn tell(answer: PathAnswer, numbers: &mut [u32; 4]) -> u32
+    requires { ⌜ Real answer ⌝ }
+    ensures { λ r. ⌜ (r ≡ numbersOfPath answer .answer) × (now (numbers .exit) ≡ numbersOfPath answer .others) ⌝ }
+{
+    let five = five_of(answer);
+    *numbers = [five[1], five[2], five[3], five[4]];
+    five[0]
+}

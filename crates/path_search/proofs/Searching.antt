@@ -33,6 +33,7 @@ use Rattle.reaches.specs.Reaches.{unreachable, codeAt}
 use Rattle.vspt.specs.Tree.{WorkedOut}
 use Rattle.vspt.proofs.Filled.{pasted}
 use Rattle.vspt.proofs.Sequences.{stops-long}
+use Rattle.bound.specs.Kept.{keptBy}
 use Rattle.rounds.specs.declared.Settled.{Settled}
 use Rattle.rounds.specs.Settled.{SettledIs}
 use Rattle.rounds.proofs.Source.{cost-is, small, none-admissible}
@@ -82,7 +83,7 @@ module _ (L : Layout) (s exclude : List ℕ) (q : Query) (cheap : L .mostCost �
     stands h = record { number = is; reached = omega (arith, small L s exclude q cheap ready here is h) }
 
     -- no path is admissible, so none is listed
-    pub sought-none : (given : List ℕ) → not (eqb here unreachable) && keepsBound (S .limits) here ≡ false → head? (greaterThan given (shortestPaths S)) ≡ none
+    pub sought-none : (given : List ℕ) → keptBy (S .limits) here ≡ false → head? (greaterThan given (shortestPaths S)) ≡ none
     unfolding shortestPaths greaterThan keep
     sought-none given f = go (admissible S) (none-admissible L s exclude q cheap ready here is ∙ ap not f)
       where
@@ -90,7 +91,7 @@ module _ (L : Layout) (s exclude : List ℕ) (q : Query) (cheap : L .mostCost �
         go [] e = ap (λ (rs : List Route). head? (greaterThan given rs)) cheapest-nil
         go (r ∷ rs) e = absurd (true≢false (sym e))
 
-    module _ (given : List ℕ) (kept : not (eqb here unreachable) && keepsBound (S .limits) here ≡ true) where
+    module _ (given : List ℕ) (kept : keptBy (S .limits) here ≡ true) where
       pub some-way : here ≡ unreachable → ⊥
       some-way e = true≢false (sym kept ∙ ap (λ (b : Bool). not b && keepsBound (S .limits) here) (eq-eqb here unreachable e))
 

@@ -5,7 +5,6 @@ use mathlib.Core.Bool.{Bool, not, _&&_}
 use mathlib.Core.List.{List}
 use Prim.Native.Nat.{ℕ, _≤_}
 use native.Mathlib.Omega.{arith}
-use lib.Dec.{eqb}
 use lib.ListN.{getD}
 use Rattle.model.specs.declared.Round.{Round}
 use Rattle.model.specs.declared.Round.the-variants.{First}
@@ -13,7 +12,7 @@ use Rattle.model.specs.Profile.{Layout, hopCount, hopAt, hops}
 use Rattle.model.specs.Subobject.{subobjects}
 use Rattle.model.specs.Exclusion.{someDesired}
 use Rattle.model.specs.Request.{Search}
-use Rattle.model.specs.Path.{keepsBound, admissible}
+use Rattle.model.specs.Path.{admissible}
 use Rattle.model.specs.Rounds.{roundIf, overRounds}
 use Rattle.model.specs.Lists.{isEmpty}
 use Rattle.laws.proofs.ProfileLists.{length-map-countFrom}
@@ -23,6 +22,7 @@ use Rattle.request.specs.declared.Query.{Query}
 use Rattle.request.specs.Query.{searchFor, inRound, roundFor, Ready}
 use Rattle.request.proofs.Requests.{ready-in}
 use Rattle.reaches.specs.Reaches.{unreachable, codeAt}
+use Rattle.bound.specs.Kept.{keptBy}
 use Rattle.vspt.specs.Tree.{LaidOutFor, TreeCodes}
 use Rattle.vspt.proofs.Sequences.{covers}
 use Rattle.rounds.specs.Settled.{SettledIs}
@@ -77,13 +77,13 @@ module _
       pub source-small : (here ≡ unreachable → ⊥) → here ≤ 1048560
       source-small = small L s exclude p cheap (ready-for First p is) here source-is
 
-      none-in-first : isEmpty (admissible (searchFor L s exclude (inRound First q))) ≡ not (not (eqb here unreachable) && keepsBound (q .limits) here)
+      none-in-first : isEmpty (admissible (searchFor L s exclude (inRound First q))) ≡ not (keptBy (q .limits) here)
       none-in-first =
           ap (λ (y : Query). isEmpty (admissible (searchFor L s exclude y))) (sym is)
           ∙ none-admissible L s exclude p cheap (ready-for First p is) here source-is
-          ∙ ap (λ (y : Query). not (not (eqb here unreachable) && keepsBound (y .limits) here)) is
+          ∙ ap (λ (y : Query). not (keptBy (y .limits) here)) is
 
       -- whether a second round is needed says which applies
-      pub round-is : (b : Bool) → b ≡ someDesired (subobjects exclude) && not (not (eqb here unreachable) && keepsBound (q .limits) here) → roundFor L s exclude q ≡ roundIf b
+      pub round-is : (b : Bool) → b ≡ someDesired (subobjects exclude) && not (keptBy (q .limits) here) → roundFor L s exclude q ≡ roundIf b
       unfolding roundFor
       round-is b e = ap (λ (c : Bool). roundIf (someDesired (subobjects exclude) && c)) none-in-first ∙ ap roundIf (sym e)

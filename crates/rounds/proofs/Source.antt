@@ -24,6 +24,7 @@ use Rattle.levels.specs.Levels.{nodesIf, nodesAt, nodesUpTo, startOf}
 use Rattle.request.specs.declared.Query.{Query}
 use Rattle.request.specs.Query.{searchFor, Ready}
 use Rattle.reaches.specs.Reaches.{unreachable, codeIf, codeAt}
+use Rattle.bound.specs.Kept.{keptBy}
 use Rattle.vspt.specs.Tree.{codesFrom, TreeCodes}
 use Rattle.vspt.proofs.Known.{code-is, cost-bound}
 use Rattle.vspt.proofs.Sequences.{stops-long}
@@ -82,7 +83,7 @@ module _ (L : Layout) (s exclude : List ℕ) (q : Query) (cheap : L .mostCost �
         (decide reach)
 
     -- no path is admissible exactly where the number fails the test
-    pub none-admissible : isEmpty (admissible S) ≡ not (not (eqb here unreachable) && keepsBound (S .limits) here)
+    pub none-admissible : isEmpty (admissible S) ≡ not (keptBy (S .limits) here)
     unfolding paths
     none-admissible = admissible-none S ∙ ap not (go (eqb here unreachable) refl)
       where

@@ -11,19 +11,18 @@ use request::in_round;
 use vspt::fill_tree;
 ghost use mathlib.Core.Path.{_≡_};
 ghost use mathlib.Core.Bool.{true, not, _&&_};
-ghost use lib.Dec.{eqb};
 ghost use Prim.Native.Nat.{_≤_};
 ghost use lib.ListN.{length};
 ghost use Rattle.model.specs.declared.ListKind.the-variants.{Exclude};
 ghost use Rattle.model.specs.declared.Verdict.the-variants.{Pass};
 ghost use Rattle.model.specs.Exclusion.{someDesired};
 ghost use Rattle.model.specs.Floats.{inRange};
-ghost use Rattle.model.specs.Path.{keepsBound};
 ghost use Rattle.model.specs.Subobject.{formVerdict, subobjects};
 ghost use Rattle.records.specs.Layout.{layoutOf, Sound};
 ghost use Rattle.levels.specs.Levels.{Room};
 ghost use Rattle.reaches.specs.Reaches.{unreachable};
 ghost use Rattle.request.specs.Query.{Ready};
+ghost use Rattle.bound.specs.Kept.{keptBy};
 ghost use Rattle.rounds.specs.Settled.{SettledIs};
 
 // A query in the round that applies, and how many hop records were examined in all rounds (the tally).
@@ -35,7 +34,7 @@ pub struct Settled {
 // A second round is needed: the first has no admissible path, by the source's number, and some exclusion has X set.
 fn needs_second(exclude: &[u8], limits: Limits, here: u32) -> bool
     requires { ⌜ (formVerdict Exclude (now exclude) ≡ Pass) × ((here ≡ unreachable → ⊥) → here ≤ 1048560) × (limits .bounded ≡ true → inRange (limits .bound) ≡ true) ⌝ }
-    ensures { λ r. ⌜ r ≡ someDesired (subobjects (now (exclude .entry))) && not (not (eqb here unreachable) && keepsBound limits here) ⌝ }
+    ensures { λ r. ⌜ r ≡ someDesired (subobjects (now (exclude .entry))) && not (keptBy limits here) ⌝ }
 {
     if admissible(limits, here) {
         return false;

@@ -164,7 +164,8 @@ fn fill_from(
     );
 }
 
-// The whole tree of a query in its round, over the entries that are laid out: how each reaches the destination.
+// The whole tree of a query in its round, over the entries that are laid out: how each reaches the destination. The first place is a call of its own: were
+// `fill_place` called by the recursion alone, the compiler would draw it in, and with it some 300 bytes into the frame of each place.
 pub fn fill_tree(
     s: &[u8],
     layout: Layout,

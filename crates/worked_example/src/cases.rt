@@ -28,8 +28,8 @@ pub const BACK: [u8; 16] = *b"\x05\x08\x00\x00\x00\x00\xfb\xf1\x05\x08\x00\x00\x
 // The node Q.
 pub const WITHOUT_Q: [u8; 8] = *b"\x01\x08\xc0\x00\x02\x0c\x20\x01";
 
-// The nodes P and Q, both with X set: they are only desired to be left out.
-pub const RATHER_WITHOUT_P_AND_Q: [u8; 16] =
+// The nodes P and Q, both with X set: their exclusion is only desired.
+pub const DESIRED_WITHOUT_P_AND_Q: [u8; 16] =
     *b"\x81\x08\xc0\x00\x02\x0b\x20\x01\x81\x08\xc0\x00\x02\x0c\x20\x01";
 
 // S, P, T, Z: a path, but not one of the shortest.

@@ -1,10 +1,10 @@
-// Prints what the calculator makes of document 01's profile W: the tree and the shortest paths of a request, then of one with a node excluded, of one with two
-// nodes that are rather not used, and of one that is refused. The file `stdout` in the folder above is taken from documents 01 and 02 by hand, not from a run.
+// Prints what the calculator makes of document 01's profile W: the tree and the shortest paths of a request, then of one with a node excluded, of one whose exclusion of two
+// nodes is only desired, and of one that is refused. The file `stdout` in the folder above is taken from documents 01 and 02 by hand, not from a run.
 use crate::cases::A_LONGER_PATH;
 use crate::cases::BACK;
+use crate::cases::DESIRED_WITHOUT_P_AND_Q;
 use crate::cases::ONWARD;
 use crate::cases::PROFILE_W;
-use crate::cases::RATHER_WITHOUT_P_AND_Q;
 use crate::cases::S;
 use crate::cases::WITHOUT_Q;
 use crate::cases::Z;
@@ -155,10 +155,10 @@ fn show_requests(profile: &[u8]) {
         &WITHOUT_Q,
     );
     show(
-        b"\nThe same rather without 192.0.2.11 and 192.0.2.12\n",
+        b"\nThe same with the exclusion of 192.0.2.11 and 192.0.2.12 only desired\n",
         profile,
         &ONWARD,
-        &RATHER_WITHOUT_P_AND_Q,
+        &DESIRED_WITHOUT_P_AND_Q,
     );
     show(
         b"\nBy AS 64497 and back to 64496\n",

@@ -11,7 +11,7 @@ use Rattle.calculator.proofs.path_calls.yq_next.Tie as tie
 use Rattle.calculator.proofs.path_calls.yq_next.Reads as reads
 use Rattle.calculator.proofs.path_calls.yq_next.Lts as lts
 use Rattle.calculator.proofs.limits.limits_of.Reads as limits-of-reads
-use Rattle.calculator.proofs.path_calls.tell.Reads as tell-reads
+use Rattle.path_answers.proofs.numbers.tell.Reads as tell-reads
 use Rattle.paths.proofs.next.Reads as next-reads
 
 limits-of-requires : tie.Need-limits-of-requires

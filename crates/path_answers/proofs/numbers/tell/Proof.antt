@@ -1,12 +1,12 @@
--- `path_calls::tell` meets its contract: the answer's five numbers, the first told and the others stored.
+-- `numbers::tell` meets its contract: the answer's five numbers, the first told and the others stored.
 -- Assumes nothing.
-use Rattle.calculator.proofs.PathCalls.{told}
+use Rattle.path_answers.proofs.Answers.{told}
 use borrow.Author.Needs.{needs}
-use Rattle.calculator.proofs.path_calls.tell.Statement.{statement}
-use Rattle.calculator.proofs.path_calls.tell.Tie as tie
-use Rattle.calculator.proofs.path_calls.tell.Reads as reads
-use Rattle.calculator.proofs.path_calls.tell.Lts as lts
+use Rattle.path_answers.proofs.numbers.tell.Statement.{statement}
+use Rattle.path_answers.proofs.numbers.tell.Tie as tie
+use Rattle.path_answers.proofs.numbers.tell.Reads as reads
+use Rattle.path_answers.proofs.numbers.tell.Lts as lts
 use Rattle.path_answers.proofs.numbers.five_of.Reads as five-of-reads
 
 five-of-requires : tie.Need-five-of-requires
 five-of-requires c κs = search needs
