@@ -56,3 +56,4 @@ pub mod Walk
 pub mod Words
 pub mod Different
 pub mod Ranges
+pub mod Halving

@@ -26,6 +26,11 @@ module _ {A : Type 0} (xs : List A) where
   pub getD-slice : (f t i : ℕ) (d : A) → f + i < t → getD (slice f t xs) i d ≡ getD xs (f + i) d
   getD-slice f t i d h = getD-drop f (take t xs) i d ∙ getD-take t xs (f + i) d h
 
+  pub slice-at : (f t i : ℕ) (d : A) → f ≤ i → i < t → getD (slice f t xs) (i - f) d ≡ getD xs i d
+  slice-at f t i d l u =
+      let e : f + (i - f) ≡ i = omega arith in
+      getD-slice f t (i - f) d (omega arith) ∙ ap (λ (k : ℕ). getD xs k d) e
+
   pub slice-mem : (f t : ℕ) (d : A) {x : A} → t ≤ length xs → List·Memᴰ x (slice f t xs) → (i : ℕ) × (f ≤ i) × (i < t) × (x ≡ getD xs i d)
   slice-mem f t d h m =
       let r = mem-place (slice f t xs) d m in
@@ -34,9 +39,8 @@ module _ {A : Type 0} (xs : List A) where
 
   pub mem-slice : (f t i : ℕ) (d : A) → t ≤ length xs → f ≤ i → i < t → List·Memᴰ (getD xs i d) (slice f t xs)
   mem-slice f t i d h l u =
-      let e : f + (i - f) ≡ i = omega arith in
       let inside : i - f < length (slice f t xs) = omega (arith, length-slice f t xs h) in
-      subst (λ (x : A). List·Memᴰ x (slice f t xs)) (getD-slice f t (i - f) d (omega arith) ∙ ap (λ (k : ℕ). getD xs k d) e)
+      subst (λ (x : A). List·Memᴰ x (slice f t xs)) (slice-at f t i d l u)
       (getD-mem (slice f t xs) (i - f) d inside)
 
   -- a part cut at an index

@@ -6,11 +6,9 @@ use native.Mathlib.Numerals.{add-one}
 use native.Mathlib.Omega.{arith}
 use mathlib.Core.Path.{_≡_, refl, sym, ap, subst, subst₂, _∙_}
 use mathlib.Core.Logic.{⊎-elim}
-use mathlib.Core.Bool.{Bool}
 use mathlib.Core.List.{List, [], _∷_, _++_, map}
 use lib.ListN.{length, getD, take, set, length-append, length-set}
 use lib.Seq.{take-suc-set, getD-set-same, getD-set-other}
-use borrow.Author.Tests.{lt-ltb, le-ltb}
 use Rattle.model.specs.declared.Hop.{Hop}
 use Rattle.model.specs.declared.DomainIndex.{DomainIndex}
 use Rattle.model.specs.Lists.{countFrom, each, different}
@@ -23,9 +21,10 @@ use Rattle.laws.proofs.Accepted.{accepted}
 use Rattle.laws.proofs.EntryNodes.{entryNodes-bound}
 use Rattle.hop_range.specs.Ranges.{PairRange}
 use Rattle.level_entries.specs.Entries.{placed, headsOf}
-use Rattle.levels.specs.Levels.{nodesIf, nodesAt, nodesUpTo, startOf, Several, Covers, Room, Noted, LaidOut}
+use Rattle.levels.specs.Levels.{nodesAt, nodesUpTo, startOf, Several, Covers, Room, Noted, LaidOut}
 use Rattle.level_entries.proofs.Placing.{take-placed, length-placed}
 use Rattle.levels.proofs.Legs.{noIndex, neighbours-apart, count-is, leg-noted, last-noted, tallyUpTo, tally-none, tally-next, tally-all, leg-tally}
+use Rattle.levels.proofs.Nodes.{nodes-here, nodes-behind, nodes-few}
 use Rattle.levels.proofs.Blocks.{each-next}
 
 -- after the first legs
@@ -41,14 +40,6 @@ pub record Filled (S : Search) (L : Layout) (s addresses starts firsts lasts : L
 nodes-next : (S : Search) (n : ℕ) → nodesUpTo S (suc n) ≡ nodesUpTo S n ++ nodesAt S n
 unfolding nodesUpTo
 nodes-next S n = each-next (nodesAt S) n
-
-nodes-here : (S : Search) (i : ℕ) → i < length (S .sequence) → nodesAt S i ≡ entriesAt S i
-unfolding nodesAt
-nodes-here S i h = ap (λ (b : Bool). nodesIf b S i) (lt-ltb i (length (S .sequence)) h)
-
-nodes-behind : (S : Search) → nodesAt S (length (S .sequence)) ≡ S .destination ∷ []
-unfolding nodesAt
-nodes-behind S = ap (λ (b : Bool). nodesIf b S (length (S .sequence))) (le-ltb (length (S .sequence)) (length (S .sequence)) (omega arith))
 
 -- the heads of a pair's hop records are its entry nodes
 pub heads-are : (L : Layout) (s : List ℕ) (d e first last : ℕ) → PairRange L s d e first last → entryNodes d e (hops L s) ≡ headsOf L s first last
@@ -141,11 +132,13 @@ module _ (S : Search) (L : Layout) (s : List ℕ) where
 
   -- all places
   pub laid-out
-      : (a st f g : List ℕ) (end x : ℕ) → end ≤ 242 → Filled S L s a st f g end x (length (S .sequence)) → LaidOut S L s a st f g x
-  laid-out a st f g end x h filled =
+      : (a st f g : List ℕ) (end x : ℕ) → end ≤ 242 → ((i : ℕ) → length (nodesAt S i) ≤ 16) → Filled S L s a st f g end x (length (S .sequence))
+      → LaidOut S L s a st f g x
+  laid-out a st f g end x h few filled =
       record {
         fits = omega (arith, filled .ends);
         addresses-are = ap (λ (n : ℕ). take n a) (sym (filled .ends)) ∙ filled .nodes;
+        few = few;
         starts-are = filled .placesStart;
         ranges = filled .legRanges;
         tally-is = filled .tallied ∙ tally-all S;
@@ -215,17 +208,19 @@ module _ (S : Search) (L : Layout) (s : List ℕ) (domains : List DomainIndex) (
       : (a st f g : List ℕ) (end x i k : ℕ) (f′ g′ : List ℕ) (first last x′ : ℕ)
       → Filled S L s a st f g end x i
       → Room a st f g
+      → profileVerdict L s ≡ Pass
       → end < 242
       → k ≡ suc (suc i)
       → suc i ≡ count
       → Noted L s f g (getD domains i noIndex .0) (getD domains i noIndex .0) i f′ g′ first last
       → x′ ≡ x + (last - first)
       → LaidOut S L s (set a end destination) (set st k (end + 1)) f′ g′ x′
-  last-filled a st f g end x i k f′ g′ first last x′ filled room fits ek h noted ex =
+  last-filled a st f g end x i k f′ g′ first last x′ filled room passed fits ek h noted ex =
       let long = count-is S L s domains count source destination several covers in
       let most = several .most in
       let all : length (S .sequence) ≡ suc i = omega arith in
       laid-out S L s (set a end destination) (set st k (end + 1)) f′ g′ (end + 1) x′ (omega arith)
+      (nodes-few S L s domains count source destination passed several covers)
       (filled-more S L s a st f g end x i (length (S .sequence)) k f′ g′ first last (destination ∷ []) (set a end destination) (end + 1) x′ filled room
       (covers .hops-are) (omega arith) (omega arith) all (ek ∙ ap suc (sym all))
       (last-noted S L s domains count source destination several covers f g i f′ g′ first last h noted)

@@ -75,6 +75,13 @@ module _ (S : Search) (L : Layout) (s : List ℕ) (domains : List DomainIndex) (
       ∙ ap (λ (ds : List ℕ). getD ds i 0) (covers .domains-are)
       ∙ index-at domains count i h
 
+  -- a leg before the last goes to another domain
+  pub leg-apart : (i : ℕ) → suc i < count → (legAt S i) .from ≡ (legAt S i) .to → ⊥
+  leg-apart i h e =
+      let on = leg-on (S .sequence) i (omega (arith, count-is)) in
+      neighbours-apart domains count i several h
+      (sym (domain-is i (omega arith)) ∙ sym (ap (λ (l : Leg). l .from) on) ∙ e ∙ ap (λ (l : Leg). l .to) on ∙ domain-is (suc i) h)
+
   -- the hop records of a leg, from those of its two domains
   pub leg-noted
       : (f g : List ℕ) (i n : ℕ) (f′ g′ : List ℕ) (first last : ℕ) → n ≡ suc i → n < count

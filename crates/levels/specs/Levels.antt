@@ -61,10 +61,11 @@ pub record Noted (L : Layout) (s firsts lasts : List ℕ) (d e i : ℕ) (firsts�
   pub first-stored : firsts′ ≡ set firsts i first
   pub last-stored : lasts′ ≡ set lasts i last
 
--- what is laid out: all places' addresses at the start of one list, where each place starts, each leg's hop records, and the tally
+-- what is laid out: all places' addresses, each place's at most 16, at the start of one list; where each place starts, each leg's hop records, and the tally
 pub record LaidOut (S : Search) (L : Layout) (s addresses starts firsts lasts : List ℕ) (hopsExamined : ℕ) : Type 0 where
   pub fits : startOf S (suc (length (S .sequence))) ≤ 242
   pub addresses-are : take (startOf S (suc (length (S .sequence)))) addresses ≡ nodesUpTo S (suc (length (S .sequence)))
+  pub few : (i : ℕ) → length (nodesAt S i) ≤ 16
   pub starts-are : (i : ℕ) → i ≤ suc (length (S .sequence)) → getD starts i 0 ≡ startOf S i
   pub ranges : (i : ℕ) → i < length (S .sequence) → PairRange L s ((legAt S i) .from) ((legAt S i) .to) (getD firsts i 0) (getD lasts i 0)
   pub tally-is : hopsExamined ≡ tally S

@@ -1,11 +1,11 @@
 -- A place of the sequence as it reads once the tree is worked out: its leg and the leg's hop records, and the numbers that stand beside the next place's nodes.
 -- From what was laid out, and from lists laid one after the other.
-use mathlib.Core.Path.{_≡_, refl, sym, ap, subst, _∙_}
+use mathlib.Core.Path.{_≡_, sym, ap, subst, subst₂, _∙_}
 use mathlib.Core.List.{List, _++_, map, List·Memᴰ}
 use Prim.Native.Nat.{ℕ, suc, _+_, _-_, _≤_, _<_}
 use native.Mathlib.Nat.{zero-add}
 use native.Mathlib.Omega.{arith}
-use lib.ListN.{length, take, drop, getD, take-append-drop, length-take}
+use lib.ListN.{length, drop, getD, take-append-drop, length-take}
 use lib.Seq.{slice}
 use Rattle.model.specs.declared.Hop.{Hop}
 use Rattle.model.specs.Lists.{countFrom, each}
@@ -20,10 +20,10 @@ use Rattle.levels.proofs.Blocks.{each-block, place-nodes}
 use Rattle.request.specs.declared.Query.{Query}
 use Rattle.request.specs.Query.{domainAt}
 use Rattle.vspt.specs.Leg.{nextPlace}
-use Rattle.reaches.specs.Reaches.{codeAt, Small, beside, NextPlace}
+use Rattle.reaches.specs.Reaches.{codeAt, NextPlace}
 use Rattle.vspt.specs.Tree.{codesFrom, WorkedOut}
-use Rattle.vspt.proofs.Filled.{level-long, codes-long}
-use Rattle.vspt.proofs.Known.{beside-any, code-small}
+use Rattle.vspt.proofs.Filled.{codes-long}
+use Rattle.vspt.proofs.Next.{next-place-of}
 use Rattle.vspt.proofs.Sequences.{stops-long, leg-of}
 use Rattle.onward.specs.Worked.{Worked}
 
@@ -90,29 +90,17 @@ module _
         (λ j. slice (from-is j) (to-is j) codes)
         ∙ place-codes S L s addresses codes starts firsts lasts (w .examined) (w .out) (suc i) (omega (arith, long))
 
-    -- it ends no later than the last
-    ends-by : startOf S (suc (suc i)) ≤ startOf S (suc (length (S .sequence)))
-    ends-by =
+    -- the numbers' list holds it
+    in-codes : startOf S (suc (suc i)) ≤ length codes
+    in-codes =
         let n = suc (length (S .sequence)) in
         let e : suc (suc i) + (n - suc (suc i)) ≡ n = omega (arith, long) in
         let m = ap (startOf S) e in
-        omega (arith, codes-long S (suc (suc i)) (n - suc (suc i)))
-
-    -- and both lists hold all places
-    held : (xs ys : List ℕ) (n : ℕ) → take n xs ≡ ys → length ys ≡ n → n ≤ length xs
-    held xs ys n e k = omega (arith, length-take n xs, ap length e)
+        let all = ap length (w .out .codes-are) ∙ starts-at S n in
+        omega (arith, codes-long S (suc (suc i)) (n - suc (suc i)), length-take (startOf S n) codes)
 
     pub next-place : NextPlace addresses codes (getD starts (suc i) 0) (getD starts (suc (suc i)) 0)
     next-place =
-        let a = from-is in
-        let b = to-is in
-        let last = ends-by in
-        record {
-          order = omega (arith, level-long S (suc i));
-          in-addresses = omega (arith, held addresses _ _ (w .out .laid .addresses-are) refl);
-          in-codes = omega (arith, held codes _ _ (w .out .codes-are) (starts-at S (suc (length (S .sequence)))));
-          small =
-              λ v.
-              subst Small (λ j. beside (sym next-nodes j) (sym next-codes j) v)
-              (beside-any (codeAt S (suc i)) Small (λ k. absurd (omega arith)) (λ x. code-small S few cheap (suc i) x) (nodesAt S (suc i)) v);
-        }
+        subst₂ (NextPlace addresses codes) (sym from-is) (sym to-is)
+        (next-place-of S L s addresses starts firsts lasts (w .examined) (w .out .laid) (suc i) (omega (arith, long)) few cheap codes in-codes
+        (place-codes S L s addresses codes starts firsts lasts (w .examined) (w .out) (suc i) (omega (arith, long))))

@@ -1,46 +1,27 @@
--- Where an address stands in a part of a list, as a loop over the part finds it, and what stands beside it. By recursion on the part.
-use mathlib.Core.Path.{_≡_, refl, sym, ap, subst, _∙_}
-use mathlib.Core.Logic.{⊎-elim}
+-- What stands beside the place where an address is found in a part of a list. By recursion on the part.
+use mathlib.Core.Path.{_≡_, refl, sym, ap, _∙_}
 use mathlib.Core.Bool.{Bool, true, false}
 use mathlib.Core.List.{List, [], _∷_}
-use Prim.Native.Nat.{ℕ, zero, suc, _+_, _-_, _≤_, _<_}
+use Prim.Native.Nat.{ℕ, suc, _+_, _-_, _≤_, _<_}
 use native.Mathlib.Omega.{arith}
 use lib.Dec.{eqb}
-use lib.ListN.{length, take, drop, getD}
-use lib.Seq.{slice, slice-empty, slice-cons, length-slice, getD-drop, getD-take}
-use borrow.Author.Tests.{eqb-true, eqb-false, eq-eqb, ne-eqb}
-use Rattle.laws.proofs.Tests.{decide}
-use Rattle.reaches.specs.declared.Place.{Place}
-use Rattle.reaches.specs.declared.Place.the-variants.{At, Nowhere}
-use Rattle.reaches.specs.Reaches.{unreachable, besideIf, beside, placeIf, placeIn}
-
--- ---- one turn of the loop
-
-module _ (xs : List ℕ) (i to v : ℕ) where
-  pub place-hit : i < to → to ≤ length xs → getD xs i 0 ≡ v → placeIn i (slice i to xs) v ≡ At i
-  unfolding placeIn
-  place-hit h k e =
-      ap (λ (l : List ℕ). placeIn i l v) (slice-cons i to xs 0 h k)
-      ∙ ap (λ (b : Bool). placeIf b i (placeIn (suc i) (slice (suc i) to xs) v)) (eq-eqb (getD xs i 0) v e)
-
-  pub place-miss : i < to → to ≤ length xs → (getD xs i 0 ≡ v → ⊥) → placeIn i (slice i to xs) v ≡ placeIn (suc i) (slice (suc i) to xs) v
-  unfolding placeIn
-  place-miss h k e =
-      ap (λ (l : List ℕ). placeIn i l v) (slice-cons i to xs 0 h k)
-      ∙ ap (λ (b : Bool). placeIf b i (placeIn (suc i) (slice (suc i) to xs) v)) (ne-eqb (getD xs i 0) v e)
-
-pub place-end : (xs : List ℕ) (to v : ℕ) → placeIn to (slice to to xs) v ≡ Nowhere
-unfolding placeIn
-place-end xs to v = ap (λ (l : List ℕ). placeIn to l v) (slice-empty to xs)
+use lib.ListN.{length, getD}
+use lib.Seq.{slice, length-slice}
+use Rattle.laws.proofs.Ranges.{slice-at}
+use Rattle.entry_lookup.specs.declared.Place.the-variants.{At, Nowhere}
+use Rattle.entry_lookup.specs.declared.LookUp.{LookUp}
+use Rattle.entry_lookup.specs.LookUp.{placeIf, placeIn, Found}
+use Rattle.entry_lookup.proofs.Parts.{part-end}
+use Rattle.reaches.specs.Reaches.{unreachable, besideIf, beside, NextPlace}
 
 -- ---- what stands beside
 
-pub record Beside (at : ℕ) (nodes codes : List ℕ) (v i : ℕ) : Type 0 where
+record Beside (at : ℕ) (nodes codes : List ℕ) (v i : ℕ) : Type 0 where
   pub from : at ≤ i
   pub inside : i < at + length nodes
   pub code : beside nodes codes v ≡ getD codes (i - at) 0
 
-pub beside-at : (at : ℕ) (nodes codes : List ℕ) (v i : ℕ) → length nodes ≤ length codes → placeIn at nodes v ≡ At i → Beside at nodes codes v i
+beside-at : (at : ℕ) (nodes codes : List ℕ) (v i : ℕ) → length nodes ≤ length codes → placeIn at nodes v ≡ At i → Beside at nodes codes v i
 unfolding placeIn beside
 beside-at at [] codes v i h e = let z : _≡_ {A = ℕ} 0 1 = cc in absurd (omega arith)
 beside-at at (a ∷ nodes) [] v i h e = absurd (omega arith)
@@ -68,7 +49,7 @@ beside-at at (a ∷ nodes) (n ∷ codes) v i h e = go (eqb a v) refl (λ q. besi
               ap (λ (b : Bool). besideIf b n (beside nodes codes v)) f ∙ r .code ∙ ap (λ (j : ℕ). getD (n ∷ codes) j 0) (sym k);
         }
 
-pub beside-nowhere : (at : ℕ) (nodes codes : List ℕ) (v : ℕ) → placeIn at nodes v ≡ Nowhere → beside nodes codes v ≡ unreachable
+beside-nowhere : (at : ℕ) (nodes codes : List ℕ) (v : ℕ) → placeIn at nodes v ≡ Nowhere → beside nodes codes v ≡ unreachable
 unfolding placeIn beside
 beside-nowhere at [] codes v e = refl
 beside-nowhere at (a ∷ nodes) [] v e = refl
@@ -83,21 +64,21 @@ beside-nowhere at (a ∷ nodes) (n ∷ codes) v e = go (eqb a v) refl (beside-no
         ap (λ (b : Bool). besideIf b n (beside nodes codes v)) f
         ∙ further (sym (ap (λ (b : Bool). placeIf b at (placeIn (suc at) nodes v)) f) ∙ e)
 
--- an element of a part is one of the whole
-pub slice-at : (xs : List ℕ) (from to i : ℕ) → from ≤ i → i < to → getD (slice from to xs) (i - from) 0 ≡ getD xs i 0
-slice-at xs from to i h k =
-    let e : from + (i - from) ≡ i = omega arith in
-    getD-drop from (take to xs) (i - from) 0 ∙ ap (λ (n : ℕ). getD (take to xs) n 0) e ∙ getD-take to xs i 0 k
+-- the two together, over the next place's part of two lists: what the look-up says
+module _ (xs ns : List ℕ) (from to v : ℕ) (next : NextPlace xs ns from to) (r : LookUp) (found : Found xs from (to - from) v r) where
+  walked : r .place ≡ placeIn from (slice from to xs) v
+  walked = found .as-walked ∙ ap (λ (n : ℕ). placeIn from (slice from n xs) v) (part-end from to (next .order))
 
--- the two together, over the same part of two lists
-pub beside-part
-    : (xs ns : List ℕ) (from to v i : ℕ) → from ≤ to → to ≤ length xs → to ≤ length ns
-    → placeIn from (slice from to xs) v ≡ At i
-    → (from ≤ i) × (i < to) × (beside (slice from to xs) (slice from to ns) v ≡ getD ns i 0)
-beside-part xs ns from to v i o h k e =
-    let m = length-slice from to xs h in
-    let n = length-slice from to ns k in
-    let r = beside-at from (slice from to xs) (slice from to ns) v i (omega arith) e in
-    let upper = r .inside in
-    let below : i < to = omega arith in
-    (r .from, below, r .code ∙ slice-at ns from to i (r .from) below)
+  pub beside-found : (i : ℕ) → r .place ≡ At i → (from ≤ i) × (i < to) × (beside (slice from to xs) (slice from to ns) v ≡ getD ns i 0)
+  beside-found i e =
+      let order = next .order in
+      let inside = next .part .inside in
+      let m = length-slice from to xs (omega arith) in
+      let n = length-slice from to ns (next .in-codes) in
+      let b = beside-at from (slice from to xs) (slice from to ns) v i (omega arith) (sym walked ∙ e) in
+      let upper = b .inside in
+      let below : i < to = omega arith in
+      (b .from, below, b .code ∙ slice-at ns from to i 0 (b .from) below)
+
+  pub beside-missing : r .place ≡ Nowhere → beside (slice from to xs) (slice from to ns) v ≡ unreachable
+  beside-missing e = beside-nowhere from (slice from to xs) (slice from to ns) v (sym walked ∙ e)

@@ -1,8 +1,7 @@
 -- How an entry reaches the destination as one number: its least cost, or `unreachable`. Cost 0 is a price like any other.
-use mathlib.Core.Path.{_≡_}
-use mathlib.Core.Bool.{Bool, true, false, not, cond, _&&_}
+use mathlib.Core.Bool.{Bool, true, false, not}
 use mathlib.Core.List.{List, [], _∷_}
-use Prim.Native.Nat.{ℕ, suc, _≤_, _<_}
+use Prim.Native.Nat.{ℕ, _-_, _≤_, _<_}
 use lib.ListN.{length}
 use lib.Dec.{eqb}
 use lib.Ieee.{Float}
@@ -11,9 +10,8 @@ use Rattle.model.specs.declared.Hop.{Hop}
 use Rattle.model.specs.Floats.{atLeast}
 use Rattle.model.specs.Request.{Search}
 use Rattle.model.specs.Tree.{entry}
-use Rattle.laws.proofs.Reach.{Reach, unreached, reachIf, via}
-use Rattle.reaches.specs.declared.Place.{Place}
-use Rattle.reaches.specs.declared.Place.the-variants.{At, Nowhere}
+use Rattle.laws.proofs.Reach.{Reach, reachIf, via}
+use Rattle.entry_lookup.specs.LookUp.{Part}
 
 abbrev pub unreachable : ℕ
 unreachable = 4294967295
@@ -51,18 +49,9 @@ beside (a ∷ nodes) (n ∷ codes) v = besideIf (eqb a v) n (beside nodes codes 
 abbrev pub wayOn : Float → List ℕ → List ℕ → Hop → Reach
 wayOn asked addresses codes h = reachIf (atLeast asked (h .bandwidth)) (via (h .cost) (reachOf (beside addresses codes (h .head .0))))
 
--- where an address stands in a list whose first element is number `at`
-abbrev pub placeIf : Bool → ℕ → Place → Place
-placeIf true at other = At at
-placeIf false at other = other
-
-unfoldable pub placeIn : ℕ → List ℕ → ℕ → Place
-placeIn at [] v = Nowhere
-placeIn at (a ∷ nodes) v = placeIf (eqb a v) at (placeIn (suc at) nodes v)
-
--- the part of two lists that has the next place's addresses and their numbers, to each of which a hop's cost can be added
+-- the part of two lists that has the next place's addresses, among which one is looked up, and their numbers, to each of which a hop's cost can be added
 pub record NextPlace (addresses codes : List ℕ) (from to : ℕ) : Type 0 where
   pub order : from ≤ to
-  pub in-addresses : to ≤ length addresses
+  pub part : Part addresses from (to - from)
   pub in-codes : to ≤ length codes
   pub small : (v : ℕ) → Small (beside (slice from to addresses) (slice from to codes) v)

@@ -1,28 +1,23 @@
 // How one entry reaches the destination, by the hop records that leave it and what is known of the next place's entries.
 // A reach is one number: the least cost, or `UNREACHABLE`.
+use entry_lookup::Place;
+use entry_lookup::find_entry;
 use model::Hop;
 use model::NodeAddress;
 use records::hop::hop_at;
 use records::layout::Layout;
 ghost use mathlib.Core.Path.{_≡_};
 ghost use mathlib.Core.Bool.{true};
-ghost use Prim.Native.Nat.{ℕ, _≤_, _<_};
-ghost use lib.ListN.{length};
+ghost use Prim.Native.Nat.{_≤_, _<_};
 ghost use lib.Seq.{slice};
 ghost use Rattle.model.specs.declared.Verdict.the-variants.{Pass};
 ghost use Rattle.model.specs.Floats.{inRange};
 ghost use Rattle.model.specs.Profile.{profileVerdict, hops, hopCount};
 ghost use Rattle.laws.proofs.Reach.{unreached, better, via, bestFrom};
 ghost use Rattle.records.specs.Layout.{layoutOf, Sound};
-ghost use Rattle.reaches.specs.Reaches.{codeOf, reachOf, Small, beside, placeIn, wayOn, NextPlace};
+ghost use Rattle.reaches.specs.Reaches.{reachOf, Small, beside, wayOn, NextPlace};
 
 pub const UNREACHABLE: u32 = 4294967295;
-
-// Where an address stands.
-pub enum Place {
-    At(usize),
-    Nowhere,
-}
 
 // The better of what was found so far and a hop of this cost with this reach behind it.
 fn relax(best: u32, cost: u32, there: u32) -> u32
@@ -39,23 +34,7 @@ fn relax(best: u32, cost: u32, there: u32) -> u32
     best
 }
 
-// Where a node stands among the addresses from `from` up to `to`.
-pub fn find_entry(addresses: &[u32], from: usize, to: usize, node: NodeAddress) -> Place
-    requires { ⌜ (from ≤ to) × (to ≤ length (now addresses)) ⌝ }
-    ensures { λ r. ⌜ r ≡ placeIn from (slice from to (now (addresses .entry))) (node .0) ⌝ }
-{
-    let v = node.0;
-    let mut i = from;
-    while i < to {
-        if addresses[i] == v {
-            return Place::At(i);
-        }
-        i += 1;
-    }
-    Place::Nowhere
-}
-
-// The reach that stands beside a node.
+// The reach that stands beside a node, found by halving.
 pub fn reach_of(
     addresses: &[u32],
     reaches: &[u32],
@@ -63,10 +42,11 @@ pub fn reach_of(
     to: usize,
     node: NodeAddress,
 ) -> u32
-    requires { ⌜ (from ≤ to) × (to ≤ length (now addresses)) × (to ≤ length (now reaches)) ⌝ }
+    requires { ⌜ NextPlace (now addresses) (now reaches) from to ⌝ }
     ensures { λ r. ⌜ r ≡ beside (slice from to (now (addresses .entry))) (slice from to (now (reaches .entry))) (node .0) ⌝ }
 {
-    let place = find_entry(addresses, from, to, node);
+    let found = find_entry(addresses, from, to - from, node);
+    let place = found.place;
     match place {
         Place::At(i) => reaches[i],
         Place::Nowhere => UNREACHABLE,

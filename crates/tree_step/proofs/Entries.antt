@@ -1,9 +1,9 @@
 -- Whether an entry is allowed, test by test; and what a part of the next place's numbers keeps while a step writes before it. By the cases of the tests.
 use mathlib.Core.Path.{_≡_, refl, sym, ap, subst, _∙_}
 use mathlib.Core.Bool.{Bool, true, false, not, _&&_}
-use mathlib.Core.List.{List, [], _∷_, map}
-use mathlib.Core.Option.{Option, none, some}
-use Prim.Native.Nat.{ℕ, zero, suc, _+_, _-_, _≤_, _<_}
+use mathlib.Core.List.{List, [], _∷_}
+use mathlib.Core.Option.{some}
+use Prim.Native.Nat.{ℕ, zero, suc, _+_, _-_, _≤_}
 use native.Mathlib.Nat.{sub-zero}
 use native.Mathlib.Omega.{arith}
 use lib.ListN.{length, take, drop}
@@ -74,7 +74,7 @@ next-kept addresses d vs at n from to p h m =
     let k : at + n ≤ length d = omega arith in
     record {
       order = o;
-      in-addresses = p .in-addresses;
+      part = p .part;
       in-codes = omega (arith, length-paste d at vs n k m);
       small =
           λ v.

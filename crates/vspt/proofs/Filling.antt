@@ -1,11 +1,11 @@
 -- The recursion over the sequence, one call at a time, over plain lists: the last place is the destination's, and one step before what is written writes one place
 -- more. From the laws of one step and of numbers written one before the other.
-use mathlib.Core.Path.{_≡_, refl, sym, ap, ap₂, subst, _∙_}
-use mathlib.Core.Bool.{Bool, not}
+use mathlib.Core.Path.{_≡_, refl, sym, ap, ap₂, subst₂, _∙_}
+use mathlib.Core.Bool.{not}
 use mathlib.Core.List.{List, map, List·Memᴰ}
-use Prim.Native.Nat.{ℕ, zero, suc, _+_, _-_, _≤_, _<_}
+use Prim.Native.Nat.{ℕ, suc, _+_, _-_, _≤_, _<_}
 use native.Mathlib.Omega.{arith}
-use lib.ListN.{length, take, getD, set, length-map, length-take}
+use lib.ListN.{length, getD, set, length-map}
 use lib.Seq.{slice, paste, length-paste}
 use Rattle.model.specs.declared.Hop.{Hop}
 use Rattle.model.specs.Profile.{Layout, hops}
@@ -19,11 +19,12 @@ use Rattle.request.specs.declared.Query.{Query}
 use Rattle.request.specs.Query.{searchFor, Ready}
 use Rattle.tree_step.specs.declared.Leg.{Leg}
 use Rattle.vspt.specs.Leg.{LegIs}
-use Rattle.reaches.specs.Reaches.{unreachable, codeIf, codeAt, Small, beside, NextPlace}
+use Rattle.reaches.specs.Reaches.{codeIf, codeAt, NextPlace}
 use Rattle.tree_step.specs.Step.{levelCodes}
-use Rattle.vspt.specs.Tree.{Holds, filledAt, codesFrom, filledFrom, LaidOutFor}
+use Rattle.vspt.specs.Tree.{Holds, filledAt, filledFrom, LaidOutFor}
 use Rattle.vspt.proofs.Filled.{level-long, codes-long, end-nodes, filled-end, filled-more, filled-first, filled-long}
-use Rattle.vspt.proofs.Known.{beside-any, code-small, end-code}
+use Rattle.vspt.proofs.Known.{end-code}
+use Rattle.vspt.proofs.Next.{next-place-of}
 use Rattle.vspt.proofs.LevelIs.{level-codes-is}
 use Rattle.vspt.proofs.Sequences.{stops-long}
 
@@ -49,9 +50,6 @@ module _
 
     starts-by : (i : ℕ) → i ≤ suc (q .count) → startOf S i ≤ 242
     starts-by i h = omega (arith, out .laid .fits, ends-by i h)
-
-    addresses-long : startOf S (suc (length (S .sequence))) ≤ length addresses
-    addresses-long = omega (arith, length-take (startOf S (suc (length (S .sequence)))) addresses, ap length (out .laid .addresses-are))
 
     later : (i : ℕ) → startOf S i ≤ startOf S (suc i)
     later i = omega (arith, level-long S i)
@@ -97,18 +95,9 @@ module _
 
       pub next-place : NextPlace addresses mid (leg .next) (leg .end)
       next-place =
-          let a = is .next-is in
-          let b = is .end-is in
-          let last = starts-by (suc (suc i)) (omega arith) in
-          record {
-            order = omega (arith, later (suc i));
-            in-addresses = omega (arith, addresses-long, ends-by (suc (suc i)) (omega arith));
-            in-codes = omega arith;
-            small =
-                λ v.
-                subst Small (λ j. beside (sym next-nodes j) (sym known j) v)
-                (beside-any (codeAt S (suc i)) Small (λ k. absurd (omega arith)) (λ x. code-small S few cheap (suc i) x) (nodesAt S (suc i)) v);
-          }
+          subst₂ (NextPlace addresses mid) (sym (is .next-is)) (sym (is .end-is))
+          (next-place-of S L s addresses starts firsts lasts (out .examined) (out .laid) (suc i) (omega (arith, stops-long q)) few cheap mid
+          (omega (arith, starts-by (suc (suc i)) (omega arith))) holds)
 
       pub placed
           : (exit : List ℕ) → exit ≡ paste mid (leg .start) (levelCodes L s exclude leg (q .limits .bandwidth) addresses mid) (leg .next - leg .start)

@@ -3,4 +3,5 @@ pub mod Known
 pub mod LevelIs
 pub mod Sequences
 pub mod Filled
+pub mod Next
 pub mod Filling

@@ -187,7 +187,7 @@ returns c =
     let from-first : Covers S (layoutOf (a .layout)) (now (a .s)) (a .t3) (a .count) (getD (set (now (a .addresses)) 0 (a .source .0)) 0 0) (a .destination .0) =
     rw (getD-set-same (now (a .addresses)) 0 (a .source .0) 0 (omega (arith, p .1 .1 .for-addresses))) covers in
     last-filled S (layoutOf (a .layout)) (now (a .s)) (a .t3) (a .count) _ _ (p .1 .0) covers (l .addresses) (l .starts) (l .firsts) (l .lasts) (l .end) (l .examined)
-    (l .i) (l .i + 2) _ _ (leg .result .first) (leg .result .last) (c .tallied2 .result) (l .inv .4 S from-first) (l .inv .3) (omega arith) (omega arith) (omega arith)
+    (l .i) (l .i + 2) _ _ (leg .result .first) (leg .result .last) (c .tallied2 .result) (l .inv .4 S from-first) (l .inv .3) (p .0 .1) (omega arith) (omega arith) (omega arith)
     (leg .ensures) (c .tallied2 .ensures)
 
 pub lay-out-spec : {M : Type 1} → statement M

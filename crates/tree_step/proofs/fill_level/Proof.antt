@@ -1,9 +1,8 @@
 -- `tree_step::fill_level` meets its contract. The loop's invariant: the first j of the domain's entries are written, and nothing else. The measure is what is left.
 -- Assumes nothing.
-use mathlib.Core.Path.{_≡_, refl, sym, ap, subst, _∙_}
-use mathlib.Core.List.{List, map}
-use Prim.Native.Nat.{ℕ, suc, _+_, _-_, _≤_, _<_}
-use native.Mathlib.Nat.{add-zero}
+use mathlib.Core.Path.{_≡_, sym, ap, subst, _∙_}
+use mathlib.Core.List.{List}
+use Prim.Native.Nat.{ℕ, _+_, _-_, _≤_, _<_}
 use native.Mathlib.Omega.{arith}
 use native.Mathlib.Numerals.{add-one}
 use borrow.Author.Needs.{needs}
@@ -12,7 +11,7 @@ use lib.Seq.{slice, paste, paste-zero, paste-suc, length-paste, length-slice}
 use Rattle.laws.proofs.Ranges.{getD-slice}
 use Rattle.records.specs.Layout.{layoutOf}
 use Rattle.reaches.specs.Reaches.{codeOf, NextPlace}
-use Rattle.tree_step.specs.Step.{entryReach, entryCode, levelCodes}
+use Rattle.tree_step.specs.Step.{entryCode, levelCodes}
 use Rattle.reaches.proofs.Codes.{code-reach}
 use Rattle.tree_step.proofs.Entries.{after-paste, next-kept}
 use Rattle.tree_step.proofs.fill_level.Statement.{statement}
@@ -33,7 +32,7 @@ long c =
     let a = c .args in
     let place = c .pre .1 .1 .1 .1 in
     let o = place .order in
-    let k = place .in-addresses in
+    let k = place .part .inside in
     length-map (slice (a .leg .start) (a .leg .next) (a .addresses .now)) _ ∙ length-slice (a .leg .start) (a .leg .next) (a .addresses .now) (omega arith)
 
 sub-count : tie.Need-sub-count Inv-loop μ-loop
@@ -78,7 +77,7 @@ mul-t15 c =
     let h = here c in
     let place = start .pre .1 .1 .1 .1 in
     let o = place .order in
-    let k = place .in-addresses in
+    let k = place .part .inside in
     let inside : start .args .leg .start + c .before .loop .j < length (start .args .addresses .now) = omega arith in
     search needs
 
@@ -88,7 +87,7 @@ shared-slice-read-t17 c =
     let h = here (c .before) in
     let place = start .pre .1 .1 .1 .1 in
     let o = place .order in
-    let k = place .in-addresses in
+    let k = place .part .inside in
     omega arith
 
 entry-reach-requires : tie.Need-entry-reach-requires Inv-loop μ-loop
@@ -134,7 +133,7 @@ loop-again c =
     let place = start .pre .1 .1 .1 .1 in
     let o = place .order in
     let k = place .in-codes in
-    let m = place .in-addresses in
+    let m = place .part .inside in
     let n = long start in
     let h = here (c .before .before .before) in
     let nodes = slice (a .leg .start) (a .leg .next) (a .addresses .now) in

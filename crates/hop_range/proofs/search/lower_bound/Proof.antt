@@ -4,14 +4,15 @@ use Prim.Native.Nat.{ℕ, _+_, _-_, _/_}
 use native.Mathlib.Omega.{arith}
 use denote.Ref.{now}
 use Rattle.laws.proofs.Accepted.{accepted}
+use Rattle.laws.proofs.Halving.{Bracket, Halves, bracket-start, bracket-halves}
 use Rattle.profile.proofs.Access.{hop-access}
 use Rattle.records.specs.Layout.{layoutOf}
-use Rattle.hop_range.proofs.Halving.{Bracket, Halves, bracket-start, bracket-halves, bracket-end}
+use Rattle.hop_range.proofs.Halving.{keyAt, keys-in-order, bracket-end}
 use Rattle.hop_range.proofs.search.lower_bound.Statement.{statement}
 use Rattle.hop_range.proofs.search.lower_bound.Tie as tie
 
 abbrev Inv-loop : tie.InvT-loop
-Inv-loop s layout from to key low₀ high₀ low high = Bracket (layoutOf layout) s from to key low high
+Inv-loop s layout from to key low₀ high₀ low high = Bracket (keyAt (layoutOf layout) s) from to key key low high
 
 abbrev μ-loop : tie.MeasureT-loop
 μ-loop s layout from to key low₀ high₀ low high = high - low
@@ -20,20 +21,21 @@ abbrev μ-loop : tie.MeasureT-loop
 halves : (c : tie.After-key-at Inv-loop μ-loop)
     → let l = c .before .before .loop in
     let a = c .before .before .before .before .args in
-    Halves (layoutOf (a .layout)) (now (a .s)) (a .from) (a .to) (a .key) (l .low) (l .high) (l .low + (l .high - l .low) / 2)
+    Halves (keyAt (layoutOf (a .layout)) (now (a .s))) (a .from) (a .to) (a .key) (a .key) (l .low) (l .high) (l .low + (l .high - l .low) / 2)
 halves c =
     let l = c .before .before .loop in
     let known = c .before .before .before in
     let a = known .before .args in
     let L = layoutOf (a .layout) in
     let s = now (a .s) in
-    bracket-halves L s (λ (k : ℕ). known .shared-slice-known .given k .fits) (accepted L s (known .before .pre .0 .1))
-    (a .from) (a .to) (a .key) (l .low) (l .high) (l .low + (l .high - l .low) / 2) (known .before .pre .1 .1) (l .inv) (omega arith) (omega arith)
+    bracket-halves (keyAt L s) (a .from) (a .to) (a .key) (a .key) (l .low) (l .high) (l .low + (l .high - l .low) / 2)
+    (keys-in-order L s (λ (k : ℕ). known .shared-slice-known .given k .fits) (accepted L s (known .before .pre .0 .1)) (a .from) (a .to) (known .before .pre .1 .1))
+    (l .inv) (omega arith) (omega arith)
 
 loop-holds : tie.Need-loop-holds Inv-loop μ-loop
 loop-holds c =
     let a = c .before .args in
-    bracket-start (layoutOf (a .layout)) (now (a .s)) (a .from) (a .to) (a .key) (c .before .pre .1 .0)
+    bracket-start (keyAt (layoutOf (a .layout)) (now (a .s))) (a .from) (a .to) (a .key) (a .key) (c .before .pre .1 .0)
 
 sub-middle : tie.Need-sub-middle Inv-loop μ-loop
 sub-middle c = omega arith
