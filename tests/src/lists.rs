@@ -1,6 +1,7 @@
 //! Domain lists: their subobjects written out by hand, and one reading or
 //! writing given to both programs.
 
+use crate::by_hand::{domain, file};
 use crate::compare::{compare, Answer, Case, Lent};
 use reference::generate::Reading;
 use std::fmt::Display;
@@ -125,6 +126,19 @@ pub fn read(profile: &[u8], ingress: u16, include: &[u8], which: impl Display) -
     case.read(which)
 }
 
+/// 0: 64496; 1 and 2: 64497 with OSPF areas 0 and 4; 3: 64498 with an IS-IS
+/// area; 4: 65536.
+pub fn five_domains() -> Vec<u8> {
+    let domains = [
+        domain(64496, 0, &[]),
+        domain(64497, 1, &[0, 0, 0, 0]),
+        domain(64497, 1, &[0, 0, 0, 4]),
+        domain(64498, 2, &[0x49, 0, 1]),
+        domain(65536, 0, &[]),
+    ];
+    file(0, &domains, &[])
+}
+
 /// The list, or number and place.
 pub type Written = Result<Vec<u8>, (u32, u32)>;
 
@@ -173,6 +187,35 @@ impl WriteList<'_> {
         assert!(place == 0 && length <= 1024, "{which}: {answer:?}");
         Ok(answer.buffers.contents()[..length].to_vec())
     }
+}
+
+/// What lies in the buffer before a call: no byte of it is 0, so that a zero
+/// not written is noticed.
+pub fn old_bytes(capacity: usize) -> Lent<u8> {
+    Lent::new(&vec![0xAA; capacity])
+}
+
+/// Capacity for every list: 16 domains, each with its AS and 13 area bytes,
+/// and 15 entry constraints.
+pub const LONGEST: usize = 16 * (8 + 20) + 15 * 8;
+
+/// A writing with capacity to spare.
+#[track_caller]
+pub fn write(profile: &[u8], domains: &[u16], pinned: &[u8], pins: &[u32]) -> Written {
+    let case = WriteList {
+        profile,
+        domains,
+        pinned,
+        pins,
+        out: old_bytes(LONGEST + 9),
+    };
+    case.write(format_args!("{domains:?}, {pinned:?}, {pins:08X?}"))
+}
+
+/// The sequence that the writer is given.
+pub fn sequence(domains: &[u16], pinned: &[u8], pins: &[u32]) -> Reading {
+    let stop = |i: usize| (domains[i], (pinned[i] == 1).then_some(pins[i]));
+    Ok((0..domains.len()).map(stop).collect())
 }
 
 /// Domains without entry constraints.

@@ -10,9 +10,9 @@ use lib.Seq.{slice, length-slice}
 use Rattle.laws.proofs.Ranges.{slice-at}
 use Rattle.entry_lookup.specs.declared.Place.the-variants.{At, Nowhere}
 use Rattle.entry_lookup.specs.declared.LookUp.{LookUp}
-use Rattle.entry_lookup.specs.LookUp.{placeIf, placeIn, Found}
+use Rattle.entry_lookup.specs.LookUp.{Part, placeIf, placeIn, Found}
 use Rattle.entry_lookup.proofs.Parts.{part-end}
-use Rattle.reaches.specs.Reaches.{unreachable, besideIf, beside, NextPlace}
+use Rattle.reaches.specs.Reaches.{unreachable, besideIf, beside}
 
 -- ---- what stands beside
 
@@ -64,21 +64,23 @@ beside-nowhere at (a ∷ nodes) (n ∷ codes) v e = go (eqb a v) refl (beside-no
         ap (λ (b : Bool). besideIf b n (beside nodes codes v)) f
         ∙ further (sym (ap (λ (b : Bool). placeIf b at (placeIn (suc at) nodes v)) f) ∙ e)
 
--- the two together, over the next place's part of two lists: what the look-up says
-module _ (xs ns : List ℕ) (from to v : ℕ) (next : NextPlace xs ns from to) (r : LookUp) (found : Found xs from (to - from) v r) where
-  walked : r .place ≡ placeIn from (slice from to xs) v
-  walked = found .as-walked ∙ ap (λ (n : ℕ). placeIn from (slice from n xs) v) (part-end from to (next .order))
+-- the two together, over the same part of two lists: what the look-up says
+module _
+    (xs ns : List ℕ) (from to v : ℕ) (order : from ≤ to) (part : Part xs from (to - from)) (in-codes : to ≤ length ns)
+    (r : LookUp) (found : Found xs from (to - from) v r)
+  where
+    walked : r .place ≡ placeIn from (slice from to xs) v
+    walked = found .as-walked ∙ ap (λ (n : ℕ). placeIn from (slice from n xs) v) (part-end from to order)
 
-  pub beside-found : (i : ℕ) → r .place ≡ At i → (from ≤ i) × (i < to) × (beside (slice from to xs) (slice from to ns) v ≡ getD ns i 0)
-  beside-found i e =
-      let order = next .order in
-      let inside = next .part .inside in
-      let m = length-slice from to xs (omega arith) in
-      let n = length-slice from to ns (next .in-codes) in
-      let b = beside-at from (slice from to xs) (slice from to ns) v i (omega arith) (sym walked ∙ e) in
-      let upper = b .inside in
-      let below : i < to = omega arith in
-      (b .from, below, b .code ∙ slice-at ns from to i 0 (b .from) below)
+    pub beside-found : (i : ℕ) → r .place ≡ At i → (from ≤ i) × (i < to) × (beside (slice from to xs) (slice from to ns) v ≡ getD ns i 0)
+    beside-found i e =
+        let inside = part .inside in
+        let m = length-slice from to xs (omega arith) in
+        let n = length-slice from to ns in-codes in
+        let b = beside-at from (slice from to xs) (slice from to ns) v i (omega arith) (sym walked ∙ e) in
+        let upper = b .inside in
+        let below : i < to = omega arith in
+        (b .from, below, b .code ∙ slice-at ns from to i 0 (b .from) below)
 
-  pub beside-missing : r .place ≡ Nowhere → beside (slice from to xs) (slice from to ns) v ≡ unreachable
-  beside-missing e = beside-nowhere from (slice from to xs) (slice from to ns) v (sym walked ∙ e)
+    pub beside-missing : r .place ≡ Nowhere → beside (slice from to xs) (slice from to ns) v ≡ unreachable
+    beside-missing e = beside-nowhere from (slice from to xs) (slice from to ns) v (sym walked ∙ e)

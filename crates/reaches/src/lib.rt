@@ -8,13 +8,15 @@ use records::hop::hop_at;
 use records::layout::Layout;
 ghost use mathlib.Core.Path.{_≡_};
 ghost use mathlib.Core.Bool.{true};
-ghost use Prim.Native.Nat.{_≤_, _<_};
+ghost use Prim.Native.Nat.{_-_, _≤_, _<_};
+ghost use lib.ListN.{length};
 ghost use lib.Seq.{slice};
 ghost use Rattle.model.specs.declared.Verdict.the-variants.{Pass};
 ghost use Rattle.model.specs.Floats.{inRange};
 ghost use Rattle.model.specs.Profile.{profileVerdict, hops, hopCount};
 ghost use Rattle.laws.proofs.Reach.{unreached, better, via, bestFrom};
 ghost use Rattle.records.specs.Layout.{layoutOf, Sound};
+ghost use Rattle.entry_lookup.specs.LookUp.{Part};
 ghost use Rattle.reaches.specs.Reaches.{reachOf, Small, beside, wayOn, NextPlace};
 
 pub const UNREACHABLE: u32 = 4294967295;
@@ -42,7 +44,7 @@ pub fn reach_of(
     to: usize,
     node: NodeAddress,
 ) -> u32
-    requires { ⌜ NextPlace (now addresses) (now reaches) from to ⌝ }
+    requires { ⌜ (from ≤ to) × Part (now addresses) from (to - from) × (to ≤ length (now reaches)) ⌝ }
     ensures { λ r. ⌜ r ≡ beside (slice from to (now (addresses .entry))) (slice from to (now (reaches .entry))) (node .0) ⌝ }
 {
     let found = find_entry(addresses, from, to - from, node);

@@ -21,10 +21,10 @@ beside-it c =
     let start = c .before .before .before .before .before .before in
     let a = start .args in
     let found = c .before .before .before .find-entry in
-    beside-found (a .addresses .now) (a .reaches .now) (a .from) (a .to) (a .node .0) (start .pre) (found .result) (found .ensures) (c .before .place .given .0 .0) (c .before .place .given .1)
+    beside-found (a .addresses .now) (a .reaches .now) (a .from) (a .to) (a .node .0) (start .pre .0) (start .pre .1) (start .pre .2) (found .result) (found .ensures) (c .before .place .given .0 .0) (c .before .place .given .1)
 
 inside : (c : tie.After-known-told) → c .before .place .given .0 .0 < length (c .before .before .before .before .before .before .args .reaches .now)
-inside c = let in-codes = c .before .before .before .before .before .before .pre .in-codes in omega (arith, beside-it c .1)
+inside c = omega (arith, c .before .before .before .before .before .before .pre .2, beside-it c .1)
 
 sub-find-entry : tie.Need-sub-find-entry
 sub-find-entry c = search needs
@@ -53,7 +53,7 @@ returns-2 c =
     let a = start .args in
     let found = c .before .before .find-entry in
     sym
-    (beside-missing (a .addresses .now) (a .reaches .now) (a .from) (a .to) (a .node .0) (start .pre) (found .result) (found .ensures) (c .enum-told .given .1))
+    (beside-missing (a .addresses .now) (a .reaches .now) (a .from) (a .to) (a .node .0) (start .pre .0) (start .pre .1) (start .pre .2) (found .result) (found .ensures) (c .enum-told .given .1))
 
 pub reach-of-spec : {M : Type 1} → statement M
 reach-of-spec =
