@@ -312,6 +312,243 @@ uint32_t yq_series(const uint8_t *profile, size_t profile_count,
                    uint32_t *buffers, size_t buffers_count,
                    uint32_t *numbers, size_t numbers_count);
 
+/*
+ * Reads a path computation request, a PCReq message (RFC 5440): whose request
+ * it is, and the lists and numbers that it asks with. docs/MESSAGES.md has such
+ * a message byte by byte.
+ *
+ *   message  the whole message, its four-byte header first
+ *
+ * The objects read are RP, END-POINTS for IPv4, BANDWIDTH type 1, METRIC, IRO
+ * and XRO, in any order. All METRICs count; of every other object the first
+ * does. Reserved bits, unassigned flags, P and I of these objects, and what
+ * follows the fixed part of an RP, are not looked at. An object of any other
+ * class or type is skipped where its P is clear.
+ *
+ * The three lent buffers have an element for each METRIC, in the message's
+ * order, so 5,460 elements each are always enough; their counts may differ:
+ *
+ *   kinds   the METRIC's type: 1 IGP, 2 TE, 3 hop count, or any other
+ *   flags   its eight flags: B (a bound) is 0x01, C (computed) is 0x02
+ *   values  its value: the bits of a 32-bit float
+ *
+ * Returns the first of these, in the order in which the checks are made:
+ *
+ *    36  header: under 4 bytes, version not 1, type not 3 (PCReq), or a length
+ *        that is not the message's or not a multiple of 4
+ *  then each object in turn
+ *    37  under 4 bytes left; length under 4, not a multiple of 4, or past the
+ *        message's end; for an object that is read not its own: RP 12 or more,
+ *        END-POINTS 12, BANDWIDTH 8, METRIC 12, IRO any, XRO 8 or more
+ *    38  any other class or type, with P set
+ *  then
+ *    39  no RP
+ *    40  no END-POINTS
+ *    21  bits of the bandwidth, then of any METRIC, from 7F800000 up
+ *    22  include list, then exclude list, over 1,024 bytes
+ *    23 to 27  form of the include list, as yq_read_include finds it
+ *    23 to 26  form of the exclude list, as yq_tree finds it
+ *    34  a buffer has fewer elements than the message has METRICs
+ *  else
+ *     0  the request is in the numbers, its METRICs in the buffers
+ *
+ * numbers[0]   place: on 37 and 38 the offset in the message of the object that
+ *              is refused; on 21 0 for the bandwidth and 1 for a METRIC; on 22
+ *              0 for the include list and 1 for the exclude list; from 23 to 27
+ *              the offset in the list of the subobject that is refused; else 0
+ * numbers[1]   on 0 the request-ID; else 0
+ * numbers[2]   on 0 the RP's flags: O 0x20, B 0x10, R 0x08 and the priority in
+ *              the low three bits, all others 0; else 0
+ * numbers[3]   on 0 the source, as a number; else 0
+ * numbers[4]   on 0 the destination, as a number; else 0
+ * numbers[5]   on 0 the bandwidth: the bits of a 32-bit float, those of 0.0
+ *              where there is no BANDWIDTH; else 0
+ * numbers[6]   on 0 how many METRICs there are; else 0
+ * numbers[7]   on 0 the offset in the message of the include list, the IRO's
+ *              body; 0 where there is no IRO; else 0
+ * numbers[8]   on 0 how many bytes that list has; else 0
+ * numbers[9]   on 0 the offset in the message of the exclude list, the XRO's
+ *              subobjects; 0 where there is no XRO; else 0
+ * numbers[10]  on 0 how many bytes that list has; else 0
+ */
+uint32_t yq_read_pcreq(const uint8_t *message, size_t message_count,
+                       uint8_t *kinds, size_t kinds_count,
+                       uint8_t *flags, size_t flags_count,
+                       uint32_t *values, size_t values_count,
+                       uint32_t numbers[11]);
+
+/*
+ * Builds the tree of the request that a PCReq carries: what yq_tree answers for
+ * the source, destination, lists and bandwidth that yq_read_pcreq reads. The
+ * bound is the value of the first METRIC whose flag B is set, whatever its
+ * type, and counts where there is one. yq_pcreq_first and yq_pcreq_next take
+ * the request likewise.
+ *
+ *   profile  a profile file, as yq_check_profile takes it
+ *   ingress  the domain that the sequence starts in, as an index into the
+ *            profile's domain records, from 0
+ *   message  the PCReq, as yq_read_pcreq takes it
+ *
+ * The four lent buffers are as for yq_tree.
+ *
+ * Returns the first of these, in the order in which the checks are made:
+ *
+ *    36 to 40  what yq_read_pcreq finds wrong with the message
+ *    10 to 20  what yq_tree finds wrong with the profile and the ingress
+ *    21  bits of the bandwidth, then of any METRIC, from 7F800000 up
+ *    22 to 32  what yq_tree finds wrong with the two lists
+ *    34  a buffer has fewer elements than the tree has entries
+ *     0  the tree is in the buffers
+ *
+ * numbers[0]  place: from 36 to 40 as yq_read_pcreq stores it; on 21 0 for the
+ *             bandwidth and 1 for a METRIC; else as yq_tree stores it
+ * numbers[1] to numbers[3]  as yq_tree stores them
+ */
+uint32_t yq_pcreq_tree(const uint8_t *profile, size_t profile_count,
+                       uint16_t ingress,
+                       const uint8_t *message, size_t message_count,
+                       uint32_t *level, size_t level_count,
+                       uint32_t *address, size_t address_count,
+                       uint8_t *reachable, size_t reachable_count,
+                       uint32_t *cost, size_t cost_count,
+                       uint32_t numbers[4]);
+
+/*
+ * The first of the shortest paths of the request that a PCReq carries. Profile,
+ * ingress and message are as yq_pcreq_tree takes them, the path is as yq_first
+ * stores it: it has an address more than the sequence has domains.
+ *
+ * Returns the first of these, in the order in which the checks are made:
+ *
+ *    10 to 32 and 36 to 40  what yq_pcreq_tree finds wrong, in its order
+ *    34  path has fewer elements than a path has addresses
+ *     1  no path keeps the bound, in either round
+ *     0  the path is at the start of the buffer; the rest of it is untouched
+ *
+ * numbers[0]  place, as yq_pcreq_tree stores it
+ * numbers[1] to numbers[3]  as yq_first stores them
+ */
+uint32_t yq_pcreq_first(const uint8_t *profile, size_t profile_count,
+                        uint16_t ingress,
+                        const uint8_t *message, size_t message_count,
+                        uint32_t *path, size_t path_count,
+                        uint32_t numbers[4]);
+
+/*
+ * The next of the shortest paths of the request that a PCReq carries, after a
+ * given list of addresses. Profile, ingress and message are as yq_pcreq_tree
+ * takes them, given and path as yq_next does.
+ *
+ * Returns the first of these, in the order in which the checks are made:
+ *
+ *    10 to 32 and 36 to 40  what yq_pcreq_tree finds wrong, in its order
+ *    33  given has more or fewer elements than a path has addresses
+ *    34  path has fewer elements than a path has addresses
+ *     2  no shortest path is greater than the list
+ *     0  the path is at the start of the buffer; the rest of it is untouched
+ *
+ * numbers  as yq_pcreq_first stores them
+ */
+uint32_t yq_pcreq_next(const uint8_t *profile, size_t profile_count,
+                       uint16_t ingress,
+                       const uint8_t *message, size_t message_count,
+                       const uint32_t *given, size_t given_count,
+                       uint32_t *path, size_t path_count,
+                       uint32_t numbers[4]);
+
+/*
+ * Writes a path computation reply, a PCRep message (RFC 5440), which
+ * yq_read_pcrep reads back as the same fields: RP, then ERO or NO-PATH, then
+ * the METRICs. P is set in the RP alone.
+ *
+ *   request_id  the request's number
+ *   rp_flags    the RP's flags, as yq_read_pcreq stores them; any other bit is
+ *               not written
+ *   found       whether the reply is a path, an ERO; if not, it is a NO-PATH
+ *   addresses   the path: each address is written as a type 1 subobject with
+ *               prefix length 32; not looked at where `found` is false
+ *   nature      the NO-PATH's nature of issue; not looked at where `found` is
+ *               true
+ *   c_flag      its flag C: unsatisfied constraints follow; likewise
+ *
+ * The three lists kinds, flags and values have an element for each METRIC, in
+ * order, as yq_read_pcreq fills them. They are written bit for bit.
+ *
+ * The message is written to the start of `out`. It has at most 65,532 bytes.
+ *
+ * Returns the first of these, in the order in which the checks are made:
+ *
+ *    37  not a message that can be written: over 65,535 bytes; counts of the
+ *        three lists that differ
+ *    21  bits of a METRIC's value from 7F800000 up
+ *    34  out has fewer bytes than the message
+ *     0  the message is in out
+ *
+ * numbers[0]  place: on 21 1; else 0
+ * numbers[1]  on 0 how many bytes the message has; else 0
+ */
+uint32_t yq_write_pcrep(uint32_t request_id, uint32_t rp_flags, bool found,
+                        const uint32_t *addresses, size_t addresses_count,
+                        uint8_t nature, bool c_flag,
+                        const uint8_t *kinds, size_t kinds_count,
+                        const uint8_t *flags, size_t flags_count,
+                        const uint32_t *values, size_t values_count,
+                        uint8_t *out, size_t out_count,
+                        uint32_t numbers[2]);
+
+/*
+ * Reads a PCRep message: whose reply it is, its path or that there is none, and
+ * its METRICs.
+ *
+ *   message  the whole message, its four-byte header first
+ *
+ * The objects read are RP, ERO, NO-PATH and METRIC, in any order. All METRICs
+ * count; of RPs the first does, and of EROs and NO-PATHs together the first.
+ * What else is not looked at or skipped is as for yq_read_pcreq; what follows
+ * the fixed part of a NO-PATH isn't looked at either.
+ *
+ *   addresses  the path, in order; 8,189 elements are always enough
+ *
+ * The other three lent buffers have an element for each METRIC, as for
+ * yq_read_pcreq.
+ *
+ * Returns the first of these, in the order in which the checks are made:
+ *
+ *    36  header: as for yq_read_pcreq, but the type is 4 (PCRep)
+ *  then each object in turn
+ *    37  length, as for yq_read_pcreq: RP 12 or more, ERO any, NO-PATH 8 or
+ *        more, METRIC 12
+ *    38  any other class or type, with P set
+ *  then
+ *    39  no RP
+ *    41  neither ERO nor NO-PATH
+ *    21  bits of a METRIC's value from 7F800000 up
+ *    23 to 27  form of an ERO that counts: as yq_read_include finds it, but
+ *        type 1 alone is taken (else 24), and the list may have any length
+ *    34  addresses has fewer elements than the path, or one of the other
+ *        buffers fewer than the message has METRICs
+ *  else
+ *     0  the reply is in the numbers and the buffers
+ *
+ * numbers[0]  place: on 37 and 38 the offset in the message of the object that
+ *             is refused; on 21 1; from 23 to 27 the offset in the ERO's body
+ *             of the subobject that is refused; else 0
+ * numbers[1]  on 0 the request-ID; else 0
+ * numbers[2]  on 0 the RP's flags, as for yq_read_pcreq; else 0
+ * numbers[3]  on 0 whether the reply is a path: 1, or for a NO-PATH 0; else 0
+ * numbers[4]  on 0 the NO-PATH's nature of issue, for a path 0; else 0
+ * numbers[5]  on 0 whether the NO-PATH's flag C is set: 1, or 0, as for a path;
+ *             else 0
+ * numbers[6]  on 0 how many addresses the path has, for a NO-PATH 0; else 0
+ * numbers[7]  on 0 how many METRICs there are; else 0
+ */
+uint32_t yq_read_pcrep(const uint8_t *message, size_t message_count,
+                       uint32_t *addresses, size_t addresses_count,
+                       uint8_t *kinds, size_t kinds_count,
+                       uint8_t *flags, size_t flags_count,
+                       uint32_t *values, size_t values_count,
+                       uint32_t numbers[8]);
+
 #ifdef __cplusplus
 }
 #endif

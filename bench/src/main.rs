@@ -1,6 +1,7 @@
 //! The proved library's calls beside the reference's, on the largest inputs:
 //! one line for each call and input.
 
+mod messages;
 mod paths;
 mod race;
 mod tree;
@@ -16,6 +17,7 @@ fn main() {
     write_list();
     tree::tree();
     paths::first_and_next();
+    messages::messages(&list_of_1024_bytes());
 }
 
 fn check_profile() {
@@ -43,12 +45,19 @@ fn read_include() {
 
     let mut without_hops = largest[..12 + 64 * 20].to_vec();
     without_hops[8..10].fill(0);
-    // The last of the 16 domains once more, as often as there is place for it.
+    let long = list_of_1024_bytes();
+    race_read_include("read_include, no hops, 1,024 bytes", &without_hops, &long);
+}
+
+/// The 16 domains, and the last of them once more as often as there is place
+/// for it.
+fn list_of_1024_bytes() -> Vec<u8> {
+    let list = list_of_16_domains(&generate::largest_profile(0));
     let area = [0x49, 0, 1, 0, 0, 0, 0, 0, 0, 0, 0, 0, 7];
     let again = [long_as(64503), is_is(&area)].concat();
     let long = [&list, &again.repeat(22)[..]].concat();
     assert_eq!(long.len(), 1024);
-    race_read_include("read_include, no hops, 1,024 bytes", &without_hops, &long);
+    long
 }
 
 type ReadInclude = fn(&[u8], u16, &[u8], &mut [u16], &mut [u8], &mut [u32], &mut [u32; 2]) -> u32;

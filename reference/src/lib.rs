@@ -1,7 +1,7 @@
-//! A path calculator written from document 01 and request [1] of document 02
-//! alone, to be compared case by case with the proved library.
+//! A path calculator written from document 01 and requests [1] and [3] of
+//! document 02 alone, to be compared case by case with the proved library.
 //!
-//! The six calls take and give what the C interface takes and gives, on
+//! The calls take and give what the C interface takes and gives, on
 //! slices: each returns document 01's number and stores the other numbers in
 //! `numbers`. On every number but 0 the place is stored, every other number is
 //! 0, and no lent buffer is touched.
@@ -16,6 +16,7 @@ mod floats;
 mod one_pass;
 mod outcome;
 mod paths;
+mod pcep;
 pub mod plain;
 mod profile;
 mod request;
@@ -35,6 +36,9 @@ pub use floats::Exact;
 pub use one_pass::one_pass_tree;
 pub use outcome::NotDone;
 pub use paths::ShortestPaths;
+pub use pcep::{
+    pcreq_first, pcreq_next, pcreq_tree, read_pcrep, read_pcreq, write_pcrep, PcReq, Reply,
+};
 pub use profile::{Domain, Hop, Profile};
 pub use request::{Question, Request};
 pub use sequence::Stop;

@@ -124,7 +124,7 @@ fn check_floats(request: &Request) -> Result<(), NotDone> {
     Ok(())
 }
 
-fn check_list_length(list: &[u8], place: usize) -> Result<(), NotDone> {
+pub fn check_list_length(list: &[u8], place: usize) -> Result<(), NotDone> {
     if list.len() <= MAX_LIST {
         Ok(())
     } else {

@@ -49,6 +49,18 @@ pub fn read_form(bytes: &[u8], list: List) -> Result<Vec<Subobject<'_>>, NotDone
     Ok(subobjects)
 }
 
+/// The first subobject whose form is wrong, if any is.
+pub fn check_form(bytes: &[u8], list: List) -> Result<(), NotDone> {
+    let mut offset = 0;
+    while offset < bytes.len() {
+        match measure(&bytes[offset..], list) {
+            Ok(length) => offset += length,
+            Err(number) => return NotDone::at(number, offset),
+        }
+    }
+    Ok(())
+}
+
 /// A list and the place in it.
 struct Walk<'a> {
     bytes: &'a [u8],
@@ -64,14 +76,13 @@ impl<'a> Walk<'a> {
         if rest.is_empty() {
             return Ok(None);
         }
-        let read = measure(rest, self.list).and_then(|whole| read_body(whole, self.list));
-        match read {
-            Ok((length, body)) => {
+        match measure(rest, self.list) {
+            Ok(length) => {
                 self.offset += length;
                 Ok(Some(Subobject {
                     offset,
                     desired: top_bit(rest),
-                    body,
+                    body: body(&rest[..length]),
                 }))
             }
             Err(number) => NotDone::at(number, offset),
@@ -79,28 +90,34 @@ impl<'a> Walk<'a> {
     }
 }
 
-/// The bytes of the subobject that `rest` begins with. The checks come in
-/// document 01's order, which judges the type before the length and a length
-/// that isn't the type's before one that runs past the end.
-fn measure(rest: &[u8], list: List) -> Result<&[u8], u32> {
+/// How long the subobject is that `rest` begins with, if its form is right. The
+/// checks come in document 01's order, which judges the type before the length
+/// and a length that isn't the type's before one that runs past the end.
+fn measure(rest: &[u8], list: List) -> Result<usize, u32> {
     if rest.len() < 4 {
         return Err(23);
     }
     let kind = rest[0] & 0x7F;
-    if !supported(kind) {
-        return Err(24);
-    }
+    let length = length_of(kind, rest[2]).ok_or(24u32)?;
     if list == List::Include && top_bit(rest) {
         return Err(27);
     }
     if kind == IS_IS_AREA && !(1..=13).contains(&rest[2]) {
         return Err(26);
     }
-    let length = usize::from(rest[1]);
-    if length != length_of(kind, rest[2]) {
+    if length != usize::from(rest[1]) {
         return Err(25);
     }
-    rest.get(..length).ok_or(23)
+    let whole = rest.get(..length).ok_or(23u32)?;
+    let fits = match kind {
+        IPV4 => address_fits(whole[6], whole[7], list),
+        IS_IS_AREA => whole[4 + usize::from(whole[2])..].iter().all(|&b| b == 0),
+        _ => true,
+    };
+    match fits {
+        true => Ok(length),
+        false => Err(26),
+    }
 }
 
 /// The bit before the type: L in an include list, X in an exclude list.
@@ -108,57 +125,41 @@ fn top_bit(subobject: &[u8]) -> bool {
     subobject[0] & 0x80 != 0
 }
 
-fn supported(kind: u8) -> bool {
-    matches!(
-        kind,
-        IPV4 | AS_FOUR_BYTES | OSPF_AREA | IS_IS_AREA | AS_TWO_BYTES
-    )
-}
-
-/// The whole length of a subobject. `third` is its third byte, which is the
-/// area length of an IS-IS area and means nothing here for the others.
-fn length_of(kind: u8, third: u8) -> usize {
+/// The whole length of a subobject of a supported type. `third` is its third
+/// byte, which is the area length of an IS-IS area and means nothing here for
+/// the others.
+fn length_of(kind: u8, third: u8) -> Option<usize> {
     match kind {
-        AS_TWO_BYTES => 4,
-        IS_IS_AREA => 4 + usize::from(third).div_ceil(4) * 4,
-        _ => 8,
+        IPV4 | AS_FOUR_BYTES | OSPF_AREA => Some(8),
+        AS_TWO_BYTES => Some(4),
+        IS_IS_AREA => Some(4 + usize::from(third).div_ceil(4) * 4),
+        _ => None,
     }
 }
 
-/// The body of a subobject whose length is right, and that length.
-fn read_body(whole: &[u8], list: List) -> Result<(usize, Body<'_>), u32> {
-    let body = match whole[0] & 0x7F {
-        IPV4 => read_address(whole, list)?,
+fn address_fits(prefix: u8, attribute: u8, list: List) -> bool {
+    match list {
+        List::Include => prefix == 32,
+        List::Exclude => prefix <= 32 && attribute == ATTRIBUTE_NODE,
+    }
+}
+
+/// The body of a subobject whose form is right.
+fn body(whole: &[u8]) -> Body<'_> {
+    match whole[0] & 0x7F {
+        IPV4 => Body::Address {
+            address: u32_at(whole, 2),
+            prefix: whole[6],
+        },
         AS_FOUR_BYTES => Body::AsNumber(u32_at(whole, 4)),
         AS_TWO_BYTES => Body::AsNumber(u32::from(u16_at(whole, 2))),
         OSPF_AREA => Body::Area {
             kind: OSPF,
             area: &whole[4..8],
         },
-        _ => read_is_is(whole)?,
-    };
-    Ok((whole.len(), body))
-}
-
-fn read_address(whole: &[u8], list: List) -> Result<Body<'_>, u32> {
-    let (prefix, attribute) = (whole[6], whole[7]);
-    let fits = match list {
-        List::Include => prefix == 32,
-        List::Exclude => prefix <= 32 && attribute == ATTRIBUTE_NODE,
-    };
-    if !fits {
-        return Err(26);
+        _ => Body::Area {
+            kind: IS_IS,
+            area: &whole[4..4 + usize::from(whole[2])],
+        },
     }
-    Ok(Body::Address {
-        address: u32_at(whole, 2),
-        prefix,
-    })
-}
-
-fn read_is_is(whole: &[u8]) -> Result<Body<'_>, u32> {
-    let (area, padding) = whole[4..].split_at(usize::from(whole[2]));
-    if padding.iter().any(|&b| b != 0) {
-        return Err(26);
-    }
-    Ok(Body::Area { kind: IS_IS, area })
 }

@@ -4,8 +4,12 @@
 //! leave.
 
 pub mod compare;
+pub mod frames;
 pub mod lists;
+pub mod metrics;
 pub mod paths;
+pub mod pcrep;
+pub mod pcreq;
 mod request;
 pub mod rows;
 pub mod series;

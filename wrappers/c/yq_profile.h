@@ -1,6 +1,6 @@
 /*
  * Yachayniq for C: a profile, a request, and the six calls on them, with every
- * buffer as large as it can need to be.
+ * buffer as large as it can need to be. yq_messages.h has the calls on messages.
  *
  *     yq_profile profile;
  *     yq_answer answer = yq_profile_open(&profile, bytes, count);
@@ -10,8 +10,8 @@
  *     while (yq_paths_next(&paths))
  *         ... paths.path ...
  *
- * A call answers with document 01's number, 0 when done, and the place of a
- * refusal (yachayniq.h lists them). What it is to fill is filled on 0 alone.
+ * A call answers with its number, 0 when done, and the place of a refusal
+ * (yachayniq.h lists them). What it is to fill is filled on 0 alone.
  * An address is a number: 192.0.2.1 is 0xC0000201.
  *
  * An exclusion with X set is only desired: if there is one, and no path keeps
@@ -186,28 +186,41 @@ static inline yq_answer yq_profile_write_list(const yq_profile *profile,
     return yq_answered(number, numbers);
 }
 
+/* The buffers that a tree is stored in. */
+typedef struct {
+    uint32_t level[YQ_ENTRIES], address[YQ_ENTRIES], cost[YQ_ENTRIES];
+    uint8_t reachable[YQ_ENTRIES];
+} yq_tree_room;
+
+#define YQ_TREE_ROOM(room) \
+    (room)->level, YQ_ENTRIES, (room)->address, YQ_ENTRIES, \
+    (room)->reachable, YQ_ENTRIES, (room)->cost, YQ_ENTRIES
+
+static inline void yq_grown(yq_entries *tree, const yq_tree_room *room,
+                            const uint32_t *numbers)
+{
+    tree->count = numbers[1];
+    tree->tally = numbers[2];
+    tree->round = numbers[3];
+    for (size_t i = 0; i < numbers[1]; i++) {
+        tree->entries[i].level = room->level[i];
+        tree->entries[i].address = room->address[i];
+        tree->entries[i].reachable = room->reachable[i] == 1;
+        tree->entries[i].cost = room->cost[i];
+    }
+}
+
 /* The least cost from each entry node to the destination. */
 static inline yq_answer yq_profile_tree(const yq_profile *profile,
                                         const yq_request *request,
                                         yq_entries *tree)
 {
-    uint32_t level[YQ_ENTRIES], address[YQ_ENTRIES], cost[YQ_ENTRIES];
-    uint8_t reachable[YQ_ENTRIES];
+    yq_tree_room room;
     uint32_t numbers[4];
-    uint32_t number = yq_tree(YQ_ASKED(profile, request),
-                              level, YQ_ENTRIES, address, YQ_ENTRIES,
-                              reachable, YQ_ENTRIES, cost, YQ_ENTRIES, numbers);
-    if (number == 0) {
-        tree->count = numbers[1];
-        tree->tally = numbers[2];
-        tree->round = numbers[3];
-        for (size_t i = 0; i < numbers[1]; i++) {
-            tree->entries[i].level = level[i];
-            tree->entries[i].address = address[i];
-            tree->entries[i].reachable = reachable[i] == 1;
-            tree->entries[i].cost = cost[i];
-        }
-    }
+    uint32_t number = yq_tree(YQ_ASKED(profile, request), YQ_TREE_ROOM(&room),
+                              numbers);
+    if (number == 0)
+        yq_grown(tree, &room, numbers);
     return yq_answered(number, numbers);
 }
 
@@ -239,6 +252,15 @@ static inline yq_answer yq_profile_first(const yq_profile *profile,
     return yq_answered(number, numbers);
 }
 
+/* A copy of a path's addresses. No path has none of them: 33, like more than
+ * there is room for. */
+static inline size_t yq_given(const yq_path *after, uint32_t given[YQ_ADDRESSES])
+{
+    size_t count = after->count <= YQ_ADDRESSES ? after->count : 0;
+    memcpy(given, after->addresses, count * sizeof *given);
+    return count;
+}
+
 /* The next shortest path after a path, or after any list of addresses of a
  * path's length; 2 where no other is greater. `path` may be `after`. */
 static inline yq_answer yq_profile_next(const yq_profile *profile,
@@ -246,9 +268,7 @@ static inline yq_answer yq_profile_next(const yq_profile *profile,
                                         const yq_path *after, yq_path *path)
 {
     uint32_t given[YQ_ADDRESSES], numbers[4];
-    /* No path has no address: 33, like more than there is room for. */
-    size_t count = after->count <= YQ_ADDRESSES ? after->count : 0;
-    memcpy(given, after->addresses, count * sizeof *given);
+    size_t count = yq_given(after, given);
     uint32_t number = yq_next(YQ_ASKED(profile, request), given, count,
                               path->addresses, YQ_ADDRESSES, numbers);
     if (number == 0)

@@ -1,2 +1,4 @@
 pub mod RoundTrip
+pub mod PcrepRoundTrip
 mod PathCalls
+mod Exported

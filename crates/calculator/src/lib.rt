@@ -1,23 +1,24 @@
 // The library that a user links: the public calls under C names. Each returns document 01's number and stores the other numbers in `numbers`.
-use crate::limits::limits_of;
+use call_numbers::tell_read;
+use call_numbers::tell_tree;
+use call_numbers::tell_write;
 use domain_list::read::read_include;
 use list_writer::writer::write_list;
 use model::DomainIndex;
 use model::NodeAddress;
 use model::ProfileAnswer;
-use model::ReadAnswer;
-use model::TreeAnswer;
-use model::WriteAnswer;
-use path_answers::numbers::round_number;
 use profile::check_profile;
+use request::limits::limits_of;
 use tree_fields::tree_numbers;
 ghost use mathlib.Core.Path.{_≡_};
-ghost use Rattle.model.specs.Calls.{checkProfile};
+ghost use lib.ListN.{length};
+ghost use Rattle.model.specs.Calls.{checkProfile, writeList, buildTree};
+ghost use Rattle.tree_fields.specs.Solved.{least4};
 ghost use Rattle.calculator.specs.Exports.{ReadExport, WriteExport, TreeExport};
 ghost use Rattle.request.specs.Bits.{limitsOfBits};
 ghost use Rattle.request.specs.Checked.{requestOf};
 
-pub mod limits;
+pub mod messages;
 pub mod path_calls;
 
 // numbers: place
@@ -59,16 +60,7 @@ pub extern "C" fn yq_read_include(
         pinned,
         pins,
     );
-    match answer {
-        ReadAnswer::Read { count } => {
-            *numbers = [0, count];
-            0
-        }
-        ReadAnswer::Refused(r) => {
-            *numbers = [r.place, 0];
-            r.number
-        }
-    }
+    tell_read(answer, numbers)
 }
 
 // numbers: place, how many bytes
@@ -81,19 +73,10 @@ pub extern "C" fn yq_write_list(
     out: &mut [u8],
     numbers: &mut [u32; 2],
 ) -> u32
-    ensures { λ r. ⌜ WriteExport (now (profile .entry)) (now (domains .entry)) (now (pinned .entry)) (now (pins .entry)) (now (out .entry)) r (now (numbers .exit)) (now (out .exit)) ⌝ }
+    ensures { λ r. ⌜ WriteExport (writeList (now (profile .entry)) (now (domains .entry)) (now (pinned .entry)) (now (pins .entry)) (length (now (out .entry)))) (now (out .entry)) r (now (numbers .exit)) (now (out .exit)) ⌝ }
 {
     let answer = write_list(profile, domains, pinned, pins, out);
-    match answer {
-        WriteAnswer::Written { length } => {
-            *numbers = [0, length];
-            0
-        }
-        WriteAnswer::Refused(r) => {
-            *numbers = [r.place, 0];
-            r.number
-        }
-    }
+    tell_write(answer, numbers)
 }
 
 // numbers: place, how many entries, tally, round
@@ -114,7 +97,7 @@ pub extern "C" fn yq_tree(
     cost: &mut [u32],
     numbers: &mut [u32; 4],
 ) -> u32
-    ensures { λ r. ⌜ TreeExport (requestOf (now (profile .entry)) ingress source destination (now (include .entry)) (now (exclude .entry)) (limitsOfBits «bandwidth_bits» «bound_counts» «bound_bits»)) (now (level .entry)) (now (address .entry)) (now (reachable .entry)) (now (cost .entry)) r (now (numbers .exit)) (now (level .exit)) (now (address .exit)) (now (reachable .exit)) (now (cost .exit)) ⌝ }
+    ensures { λ r. ⌜ TreeExport (buildTree (requestOf (now (profile .entry)) ingress source destination (now (include .entry)) (now (exclude .entry)) (limitsOfBits «bandwidth_bits» «bound_counts» «bound_bits»)) (least4 (now (level .entry)) (now (address .entry)) (now (reachable .entry)) (now (cost .entry)))) (now (level .entry)) (now (address .entry)) (now (reachable .entry)) (now (cost .entry)) r (now (numbers .exit)) (now (level .exit)) (now (address .exit)) (now (reachable .exit)) (now (cost .exit)) ⌝ }
 {
     let limits = limits_of(bandwidth_bits, bound_counts, bound_bits);
     let answer = tree_numbers(
@@ -130,18 +113,5 @@ pub extern "C" fn yq_tree(
         reachable,
         cost,
     );
-    match answer {
-        TreeAnswer::Built {
-            entries,
-            tally,
-            round,
-        } => {
-            *numbers = [0, entries, tally, round_number(round)];
-            0
-        }
-        TreeAnswer::Refused(r) => {
-            *numbers = [r.place, 0, 0, 0];
-            r.number
-        }
-    }
+    tell_tree(answer, numbers)
 }

@@ -1,10 +1,10 @@
 // First, next and the series under C names.
-use crate::limits::limits_of;
 use model::DomainIndex;
 use model::NodeAddress;
 use path_answers::numbers::tell;
 use paths::first;
 use paths::next;
+use request::limits::limits_of;
 use series::SeriesAnswer;
 use series::run;
 ghost use lib.ListN.{length};

@@ -3,6 +3,7 @@ pub mod Tests
 pub mod Lists
 pub mod Below
 pub mod BoundExact
+pub mod Bits
 pub mod Ascending
 pub mod ShortestPathsExact
 pub mod FirstNextExact

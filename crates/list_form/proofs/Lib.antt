@@ -1,3 +1,2 @@
-mod Table
 mod Zeros
 mod FormChecks

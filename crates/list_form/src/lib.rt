@@ -14,13 +14,6 @@ use refusal::refuse_at;
 use subobject::walk::next_after;
 use wire::wide;
 
-// The length rule of each type: the type, its fixed length, and whether the area's length, rounded up to 4, comes on top.
-const TYPES: [u8; 5] = [1, 5, 6, 7, 32];
-
-const FIXED: [u32; 5] = [8, 8, 8, 4, 4];
-
-const WITH_AREA: [u32; 5] = [0, 0, 0, 1, 0];
-
 // An area's length rounded up to 4.
 fn rounded_up(n: u8) -> u32
     ensures { λ r. ⌜ (r ≡ roundedUp n) × (r ≤ 260) ⌝ }
@@ -28,16 +21,25 @@ fn rounded_up(n: u8) -> u32
     (n as u32 + 3) / 4 * 4
 }
 
-// A subobject's length by its type and its area's length, 0 where the type isn't in the table.
+// A subobject's length by its type and its area's length, 0 where the type isn't in the table of length rules. By tests, since a table in memory would
+// be laid out anew for each subobject.
 fn length_of(t: u8, area: u8) -> u32
     ensures { λ r. ⌜ r ≡ lengthOf t area ⌝ }
 {
-    let mut i: usize = 0;
-    while i < 5 {
-        if TYPES[i] == t {
-            return FIXED[i] + WITH_AREA[i] * rounded_up(area);
-        }
-        i += 1;
+    if t == 1 {
+        return 8;
+    }
+    if t == 5 {
+        return 8;
+    }
+    if t == 6 {
+        return 8;
+    }
+    if t == 7 {
+        return 4 + rounded_up(area);
+    }
+    if t == 32 {
+        return 4;
     }
     0
 }

@@ -17,7 +17,7 @@ use Rattle.model.specs.Profile.{Layout, version1, domainCount, profileVe
 use Rattle.model.specs.Subobject.{Subobject, formVerdict, subobjects}
 use Rattle.model.specs.Sequence.{Stop, Reading, refused, good, meaning}
 use Rattle.model.specs.Exclusion.{inForce}
-use Rattle.model.specs.Floats.{inRange}
+use Rattle.model.specs.Floats.{inRange, floatOfBits}
 
 pub record Request : Type 0 where
   pub profile : List ℕ
@@ -31,6 +31,10 @@ pub record Request : Type 0 where
 -- the layout of the request's profile
 abbrev pub layoutOf : Request → Layout
 layoutOf r = version1
+
+-- limits given by bits
+abbrev pub limitsOfBits : ℕ → Bool → ℕ → Limits
+limitsOfBits bandwidth counts bound = record { bandwidth = floatOfBits bandwidth; bound = floatOfBits bound; bounded = counts }
 
 -- ---- single checks
 

@@ -1,4 +1,3 @@
 pub mod Verdicts
 pub mod Queries
 pub mod Requests
-pub mod Bits

@@ -28,7 +28,7 @@ fn start_verdict(profile: &[u8], ingress: DomainIndex) -> Verdict
 }
 
 // The sizes of both lists, then their form.
-fn lists_verdict(include: &[u8], exclude: &[u8]) -> Verdict
+pub fn lists_verdict(include: &[u8], exclude: &[u8]) -> Verdict
     ensures { λ r. ⌜ r ≡ listsVerdict (now (include .entry)) (now (exclude .entry)) ⌝ }
 {
     if 1024 < include.len() {

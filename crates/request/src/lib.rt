@@ -12,6 +12,7 @@ ghost use Rattle.request.specs.Query.{inRound};
 
 pub mod checks;
 pub mod floats;
+pub mod limits;
 
 // What a search needs of an accepted request beside the profile and the exclude list: the sequence of `count` domains with their entry constraints,
 // where a path starts and ends, the limits, and the round in which it is looked for.

@@ -8,6 +8,9 @@ mod large;
 mod list_damage;
 mod list_plan;
 mod lists;
+mod message_cases;
+mod message_damage;
+mod messages;
 mod random;
 mod requests;
 mod rounds;
@@ -17,6 +20,8 @@ mod writing;
 pub use damage::Planned;
 pub use large::EQUAL_PATHS_WIDTHS;
 pub use list_plan::{PlannedInclude, Reading};
+pub use message_cases::{PcRepCase, PcReqCase, ReplyCase, Told};
+pub use messages::{Metric, PcRepFields, PcReqFields, Said};
 pub use random::Random;
 pub use requests::{NextCase, RequestCase, SeriesCase};
 pub use writing::WriteCase;
@@ -186,4 +191,35 @@ pub fn equal_paths_profile() -> Vec<u8> {
 /// The request that has them all.
 pub fn equal_paths_request() -> RequestCase {
     large::crossing_request(&large::equal_paths())
+}
+
+/// A PCReq of any kind that carries a request of any kind.
+pub fn pcreq_case(seed: u64) -> PcReqCase {
+    let random = &mut Random::new(seed, 15);
+    let request = requests::any(random);
+    let next = requests::with_given(random, request);
+    message_cases::pcreq_case(random, next)
+}
+
+/// A whole PCReq of any shape that carries a request of whole words, and that
+/// request as its METRICs leave it.
+pub fn carrying(seed: u64, request: &RequestCase) -> (Vec<u8>, RequestCase) {
+    let mut carried = request.clone();
+    let (draft, _) = messages::pcreq(&mut Random::new(seed, 19), &mut carried);
+    (draft.encode(), carried)
+}
+
+/// A PCRep of any kind.
+pub fn pcrep_case(seed: u64) -> PcRepCase {
+    message_cases::pcrep_case(&mut Random::new(seed, 16))
+}
+
+/// Fields for `write_pcrep`, refused ones included.
+pub fn reply_case(seed: u64) -> ReplyCase {
+    message_cases::any_reply(&mut Random::new(seed, 17))
+}
+
+/// Fields that `write_pcrep` takes, with room for any.
+pub fn valid_reply_case(seed: u64) -> ReplyCase {
+    message_cases::valid_reply(&mut Random::new(seed, 18))
 }

@@ -2,6 +2,8 @@
 #![allow(dead_code)]
 
 pub mod desired;
+pub mod messages;
+pub mod replies;
 
 use reference::generate::Reading;
 use reference::Request;

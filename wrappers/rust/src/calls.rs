@@ -2,6 +2,8 @@
 
 use crate::Request;
 
+pub mod messages;
+
 extern "C" {
     fn yq_check_profile(profile: *const u8, profile_count: usize, numbers: *mut u32) -> u32;
 

@@ -1,4 +1,5 @@
-//! Yachayniq for Rust: profiles, requests, trees and shortest paths.
+//! Yachayniq for Rust: profiles, requests, trees, shortest paths and PCEP
+//! messages.
 //!
 //! ```no_run
 //! # use yachayniq::{Profile, Request};
@@ -16,7 +17,7 @@
 //! # }
 //! ```
 //!
-//! What the library refuses is a `Refusal` with document 01's number and place
+//! What the library refuses is a `Refusal` with its number and place
 //! (`include/yachayniq.h` lists them).
 //!
 //! An exclusion with X set is only desired: if there is one, and no path keeps
@@ -28,6 +29,10 @@ use std::fmt;
 use std::net::Ipv4Addr;
 
 mod calls;
+mod messages;
+
+pub use messages::{read_pcrep, read_pcreq, write_pcrep};
+pub use messages::{Answer, Metric, Pcrep, Pcreq, PcreqPaths};
 
 const MOST_DOMAINS: usize = 16;
 const MOST_ADDRESSES: usize = 17;
@@ -174,33 +179,16 @@ impl Profile {
 
     /// The least cost from each entry node to the destination.
     pub fn tree(&self, request: &Request) -> Result<Tree, Refusal> {
-        let mut level = [0; MOST_ENTRIES];
-        let mut address = [0; MOST_ENTRIES];
-        let mut reachable = [0; MOST_ENTRIES];
-        let mut cost = [0; MOST_ENTRIES];
-        let mut numbers = [0; 4];
-        let number = calls::tree(
-            &self.0,
-            request,
-            &mut level,
-            &mut address,
-            &mut reachable,
-            &mut cost,
-            &mut numbers,
-        );
-        let [place, count, tally, round] = numbers;
-        unless_refused(number, place)?;
-        let entry = |i: usize| Entry {
-            level: level[i],
-            address: address[i].into(),
-            reachable: reachable[i] == 1,
-            cost: cost[i],
-        };
-        let entries = (0..count as usize).map(entry).collect();
-        Ok(Tree {
-            entries,
-            tally,
-            round,
+        grown(|room, numbers| {
+            calls::tree(
+                &self.0,
+                request,
+                &mut room.level,
+                &mut room.address,
+                &mut room.reachable,
+                &mut room.cost,
+                numbers,
+            )
         })
     }
 
@@ -260,15 +248,60 @@ impl Iterator for Paths<'_> {
     type Item = Path;
 
     fn next(&mut self) -> Option<Path> {
-        let path = match std::mem::replace(&mut self.at, At::End) {
+        self.at.step(|last| self.profile.next(&self.request, last))
+    }
+}
+
+impl At {
+    /// The path that one stands before. What comes after the last one told is
+    /// asked for: the request was accepted, and a path has a path's length, so
+    /// nothing is refused.
+    fn step(
+        &mut self,
+        after: impl FnOnce(&[Ipv4Addr]) -> Result<Option<Path>, Refusal>,
+    ) -> Option<Path> {
+        let path = match std::mem::replace(self, At::End) {
             At::First(path) => path,
-            // The request was accepted, and a path has a path's length: nothing is refused.
-            At::After(last) => self.profile.next(&self.request, &last).ok()??,
+            At::After(last) => after(&last).ok()??,
             At::End => return None,
         };
-        self.at = At::After(path.addresses.clone());
+        *self = At::After(path.addresses.clone());
         Some(path)
     }
+}
+
+/// The buffers that a tree is stored in.
+struct TreeRoom {
+    level: [u32; MOST_ENTRIES],
+    address: [u32; MOST_ENTRIES],
+    reachable: [u8; MOST_ENTRIES],
+    cost: [u32; MOST_ENTRIES],
+}
+
+/// The tree that a call stores.
+fn grown(call: impl FnOnce(&mut TreeRoom, &mut [u32; 4]) -> u32) -> Result<Tree, Refusal> {
+    let mut room = TreeRoom {
+        level: [0; MOST_ENTRIES],
+        address: [0; MOST_ENTRIES],
+        reachable: [0; MOST_ENTRIES],
+        cost: [0; MOST_ENTRIES],
+    };
+    let mut numbers = [0; 4];
+    let number = call(&mut room, &mut numbers);
+    let [place, count, tally, round] = numbers;
+    unless_refused(number, place)?;
+    let entry = |i: usize| Entry {
+        level: room.level[i],
+        address: room.address[i].into(),
+        reachable: room.reachable[i] == 1,
+        cost: room.cost[i],
+    };
+    let entries = (0..count as usize).map(entry).collect();
+    Ok(Tree {
+        entries,
+        tally,
+        round,
+    })
 }
 
 fn unless_refused(number: u32, place: u32) -> Result<(), Refusal> {

@@ -1,6 +1,5 @@
--- `yq_read_include` meets its contract: each arm stores the numbers that `numbersOfRead` gives for it.
-use mathlib.Core.Path.{sym, ap, _∙_}
-use Rattle.model.specs.Answers.{Numbers, numbersOfRead}
+-- `yq_read_include` meets its contract: what the call answers is told.
+use Rattle.calculator.proofs.Exported.{read-export}
 use borrow.Author.Needs.{needs}
 use Rattle.calculator.proofs.yq_read_include.Statement.{statement}
 use Rattle.calculator.proofs.yq_read_include.Tie as tie
@@ -8,11 +7,8 @@ use Rattle.calculator.proofs.yq_read_include.Tie as tie
 read-include-requires : tie.Need-read-include-requires
 read-include-requires c κs = search needs
 
-enum-known-answer : tie.Need-enum-known-answer
-enum-known-answer c = search needs
-
-enum-known-answer-2 : tie.Need-enum-known-answer-2
-enum-known-answer-2 c = search needs
+tell-read-requires : tie.Need-tell-read-requires
+tell-read-requires c κs = search needs
 
 same-length : tie.Need-same-length
 same-length c = search needs
@@ -25,49 +21,15 @@ same-length-3 c = search needs
 
 returns : tie.Need-returns
 returns c =
-    let is = c .before .before .before .before .before .before .before .before .before .before .read-include .ensures in
-    let e = sym (ap numbersOfRead (c .before .before .answer .given .1)) ∙ is .numbers in
-    record {
-      answer = ap (λ (n : Numbers). n .answer) e;
-      others = ap (λ (n : Numbers). n .others) e;
-      in-domains = is .in-domains;
-      in-marks = is .in-marks;
-      in-nodes = is .in-nodes;
-    }
-
-same-length-4 : tie.Need-same-length-4
-same-length-4 c = search needs
-
-same-length-5 : tie.Need-same-length-5
-same-length-5 c = search needs
-
-same-length-6 : tie.Need-same-length-6
-same-length-6 c = search needs
-
-returns-2 : tie.Need-returns-2
-returns-2 c =
-    let is = c .before .before .before .before .before .before .before .before .before .before .read-include .ensures in
-    let e = sym (ap numbersOfRead (c .before .before .answer2 .given .1)) ∙ is .numbers in
-    record {
-      answer = ap (λ (n : Numbers). n .answer) e;
-      others = ap (λ (n : Numbers). n .others) e;
-      in-domains = is .in-domains;
-      in-marks = is .in-marks;
-      in-nodes = is .in-nodes;
-    }
+    read-export _ _ _ _ _ _ _ _ _ _ _ (c .before .before .before .before .before .before .before .before .read-include .result) (c .before .before .before .before .before .before .before .before .read-include .ensures) (c .tell-read .ensures .0) (c .tell-read .ensures .1)
 
 pub yq-read-include-spec : {M : Type 1} → statement M
 yq-read-include-spec =
     tie.close
     (tie.spec
     read-include-requires
-    enum-known-answer
-    enum-known-answer-2
+    tell-read-requires
     same-length
     same-length-2
     same-length-3
-    returns
-    same-length-4
-    same-length-5
-    same-length-6
-    returns-2)
+    returns)

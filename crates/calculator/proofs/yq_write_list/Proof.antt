@@ -1,6 +1,6 @@
--- `yq_write_list` meets its contract: each arm stores the numbers that `numbersOfWrite` gives for it.
-use mathlib.Core.Path.{sym, ap, _∙_}
-use Rattle.model.specs.Answers.{Numbers, numbersOfWrite}
+-- `yq_write_list` meets its contract: what the call answers is told.
+use Rattle.model.specs.Answers.{numbersOfWrite}
+use Rattle.calculator.proofs.Exported.{write-export}
 use borrow.Author.Needs.{needs}
 use Rattle.calculator.proofs.yq_write_list.Statement.{statement}
 use Rattle.calculator.proofs.yq_write_list.Tie as tie
@@ -8,46 +8,17 @@ use Rattle.calculator.proofs.yq_write_list.Tie as tie
 write-list-requires : tie.Need-write-list-requires
 write-list-requires c κs = search needs
 
-enum-known-answer : tie.Need-enum-known-answer
-enum-known-answer c = search needs
-
-enum-known-answer-2 : tie.Need-enum-known-answer-2
-enum-known-answer-2 c = search needs
+tell-write-requires : tie.Need-tell-write-requires
+tell-write-requires c κs = search needs
 
 same-length : tie.Need-same-length
 same-length c = search needs
 
 returns : tie.Need-returns
 returns c =
-    let is = c .before .before .before .before .before .before .write-list .ensures in
-    let e = sym (ap numbersOfWrite (c .before .before .answer .given .1)) ∙ is .numbers in
-    record {
-      answer = ap (λ (n : Numbers). n .answer) e;
-      others = ap (λ (n : Numbers). n .others) e;
-      in-out = is .buffer;
-    }
-
-same-length-2 : tie.Need-same-length-2
-same-length-2 c = search needs
-
-returns-2 : tie.Need-returns-2
-returns-2 c =
-    let is = c .before .before .before .before .before .before .write-list .ensures in
-    let e = sym (ap numbersOfWrite (c .before .before .answer2 .given .1)) ∙ is .numbers in
-    record {
-      answer = ap (λ (n : Numbers). n .answer) e;
-      others = ap (λ (n : Numbers). n .others) e;
-      in-out = is .buffer;
-    }
+    let w = c .before .before .before .before .write-list in
+    write-export _ _ _ (numbersOfWrite (w .result)) _ _ (w .ensures .numbers) (w .ensures .buffer) (c .tell-write .ensures .0) (c .tell-write .ensures .1)
 
 pub yq-write-list-spec : {M : Type 1} → statement M
 yq-write-list-spec =
-    tie.close
-    (tie.spec
-    write-list-requires
-    enum-known-answer
-    enum-known-answer-2
-    same-length
-    returns
-    same-length-2
-    returns-2)
+    tie.close (tie.spec write-list-requires tell-write-requires same-length returns)

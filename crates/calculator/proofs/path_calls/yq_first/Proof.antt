@@ -10,7 +10,6 @@ use Rattle.calculator.proofs.path_calls.yq_first.Statement.{statement}
 use Rattle.calculator.proofs.path_calls.yq_first.Tie as tie
 use Rattle.calculator.proofs.path_calls.yq_first.Reads as reads
 use Rattle.calculator.proofs.path_calls.yq_first.Lts as lts
-use Rattle.calculator.proofs.limits.limits_of.Reads as limits-of-reads
 use Rattle.path_answers.proofs.numbers.tell.Reads as tell-reads
 use Rattle.paths.proofs.first.Reads as first-reads
 

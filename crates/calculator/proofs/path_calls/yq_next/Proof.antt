@@ -10,7 +10,6 @@ use Rattle.calculator.proofs.path_calls.yq_next.Statement.{statement}
 use Rattle.calculator.proofs.path_calls.yq_next.Tie as tie
 use Rattle.calculator.proofs.path_calls.yq_next.Reads as reads
 use Rattle.calculator.proofs.path_calls.yq_next.Lts as lts
-use Rattle.calculator.proofs.limits.limits_of.Reads as limits-of-reads
 use Rattle.path_answers.proofs.numbers.tell.Reads as tell-reads
 use Rattle.paths.proofs.next.Reads as next-reads
 

@@ -9,7 +9,6 @@ use Rattle.calculator.proofs.path_calls.yq_series.Statement.{statement}
 use Rattle.calculator.proofs.path_calls.yq_series.Tie as tie
 use Rattle.calculator.proofs.path_calls.yq_series.Reads as reads
 use Rattle.calculator.proofs.path_calls.yq_series.Lts as lts
-use Rattle.calculator.proofs.limits.limits_of.Reads as limits-of-reads
 use Rattle.series.proofs.run.Reads as run-reads
 
 limits-of-requires : tie.Need-limits-of-requires

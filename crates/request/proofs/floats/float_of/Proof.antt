@@ -1,6 +1,6 @@
 -- `floats::float_of` meets its contract: bits below 7F800000 are those of a float, and so is 7F800000 itself.
 use Rattle.laws.proofs.BoundExact.{from-bits-defined}
-use Rattle.request.proofs.Bits.{bits-below, bits-above}
+use Rattle.laws.proofs.Bits.{bits-below, bits-above}
 use lib.Ieee.{nanBits}
 use Rattle.request.proofs.floats.float_of.Statement.{statement}
 use Rattle.request.proofs.floats.float_of.Tie as tie

@@ -1,0 +1,1 @@
+// What follows from the definitions of PCEP messages alone. No code: the laws stand in proofs/.
