@@ -1,6 +1,7 @@
 -- What the definitions of `model` imply, a module to a subject.
 pub mod Tests
 pub mod Lists
+pub mod Scans
 pub mod Below
 pub mod BoundExact
 pub mod Bits

@@ -2,13 +2,13 @@
 use Prim.Native.Nat.{ℕ, zero, suc, _+_, _≤_, _<_}
 use native.Mathlib.Omega.{arith}
 use native.Mathlib.Numerals.{add-one}
-use mathlib.Core.Path.{_≡_, refl, sym, ap, _∙_}
+use mathlib.Core.Path.{_≡_, sym, ap, _∙_}
 use mathlib.Core.List.{List, [], _∷_, map}
 use mathlib.Core.Logic.{⊎-elim}
 use mathlib.Core.Bool.{true, false}
 use lib.Dec.{ltb}
 use lib.ListN.{length, length-map, getD, take, drop, set}
-use lib.Seq.{length-take-le}
+use lib.Seq.{length-take-le, take-all}
 use borrow.Author.Tests.{ltb-true, ltb-false}
 use Rattle.model.specs.declared.Verdict.the-variants.{Pass}
 use Rattle.model.specs.Lists.{over}
@@ -43,11 +43,7 @@ module _ {A : Type 0} (f : A → ℕ) (xs : List A) (old : List ℕ) where
       ∙ ap (λ (n : ℕ). over (take n (map f xs)) old) (sym (add-one i))
 
   pub written-all : (i : ℕ) (new : List ℕ) → i ≡ length xs → Written i new → new ≡ over (map f xs) old
-  written-all i new e w = w ∙ ap (λ (l : List ℕ). over l old) (ap (λ (n : ℕ). take n (map f xs)) (e ∙ sym (length-map xs f)) ∙ take-all (map f xs))
-    where
-      take-all : (l : List ℕ) → take (length l) l ≡ l
-      take-all [] = refl
-      take-all (x ∷ l) = ap {B = List ℕ} (λ (r : List ℕ). x ∷ r) (take-all l)
+  written-all i new e w = w ∙ ap (λ (l : List ℕ). over l old) (take-all i (map f xs) (let n = length-map xs f in omega arith))
 
 module _ {A : Type 0} where
   none-there : (y : A) (ys : List A) → _≡_ {A = List A} [] (y ∷ ys) → ⊥

@@ -137,10 +137,13 @@ headerWrong k s =
     || (not (eqb (number 2 s 2) (length s))
     || not (eqb (length s % 4) 0))))
 
--- no END-POINTS in a PCReq; neither ERO nor NO-PATH in a PCRep
+-- no END-POINTS in a PCReq; neither ERO nor NO-PATH in a PCRep; by where the first object of each class starts
+abbrev pub bodyLacks : MessageKind → (ℕ → ℕ) → Verdict
+bodyLacks Pcreq first = refuseIf (eqb (first END-POINTS) 0) 40 0
+bodyLacks Pcrep first = refuseIf (eqb (first ERO) 0 && eqb (first NO-PATH) 0) 41 0
+
 abbrev pub bodyVerdict : MessageKind → List ℕ → Verdict
-bodyVerdict Pcreq s = refuseIf (eqb (firstObject END-POINTS s) 0) 40 0
-bodyVerdict Pcrep s = refuseIf (eqb (firstObject ERO s) 0 && eqb (firstObject NO-PATH s) 0) 41 0
+bodyVerdict k s = bodyLacks k (λ (c : ℕ). firstObject c s)
 
 -- 36, the objects in turn, 39, then 40 or 41: all of it before 10
 unfoldable pub messageVerdict : MessageKind → List ℕ → Verdict

@@ -45,9 +45,13 @@ addressesIn e = map (addressAt e) (placesAlong (length e) (afterStep e) (length 
 
 -- ---- fields
 
+-- the object that starts at the first place is there, and met before the one that starts at the second
+abbrev pub metFirst : ℕ → ℕ → Bool
+metFirst at other = not (eqb at 0) && (eqb other 0 || ltb at other)
+
 -- of ERO and NO-PATH the one met first counts
 abbrev pub routeGiven : List ℕ → Bool
-routeGiven s = not (eqb (firstObject ERO s) 0) && (eqb (firstObject NO-PATH s) 0 || ltb (firstObject ERO s) (firstObject NO-PATH s))
+routeGiven s = metFirst (firstObject ERO s) (firstObject NO-PATH s)
 
 -- the body of the ERO that counts, nothing beside a NO-PATH that does
 abbrev pub routeIn : List ℕ → List ℕ

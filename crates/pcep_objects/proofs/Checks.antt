@@ -11,7 +11,7 @@ use borrow.Author.Tests.{lt-ltb, le-ltb, ltb-true, ltb-false, eq-eqb, ne-eqb}
 use Rattle.model.specs.declared.Verdict.{Verdict}
 use Rattle.model.specs.declared.Verdict.the-variants.{Pass}
 use Rattle.model.specs.Verdict.{refuseIf, _andThen_}
-use Rattle.laws.proofs.Tests.{decide, and-none}
+use Rattle.laws.proofs.Tests.{decide, and-none, not-not}
 use Rattle.laws.proofs.Turns.{refuse-not-pass}
 use Rattle.pcep_model.specs.declared.MessageKind.{MessageKind}
 use Rattle.pcep_model.specs.Objects.{classAt, typeAt, demandedAt, sizeAt, sizeWrong, knownObject, objectVerdict}
@@ -25,10 +25,6 @@ same-left l at n h =
     (λ (t : ltb (l - at) n ≡ true). let g = ltb-true (l - at) n t in lt-ltb l (at + n) (omega arith) ∙ sym t)
     (λ (f : ltb (l - at) n ≡ false). let g = ltb-false (l - at) n f in le-ltb l (at + n) (omega arith) ∙ sym f)
     (decide (ltb (l - at) n))
-
-not-not : (b : Bool) → not (not b) ≡ b
-not-not true = refl
-not-not false = refl
 
 module _ (k : MessageKind) (s : List ℕ) (at : ℕ) where
   abbrev pub least : ℕ

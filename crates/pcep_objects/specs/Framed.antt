@@ -1,7 +1,6 @@
 -- What the checks of a whole message answer, over `Objects` of `pcep_model`.
 use Prim.Native.Nat.{ℕ, _≤_}
 use mathlib.Core.Path.{_≡_}
-use mathlib.Core.Bool.{_&&_}
 use mathlib.Core.List.{List}
 use lib.ListN.{length, getD}
 use lib.Dec.{eqb}
@@ -9,18 +8,13 @@ use Rattle.model.specs.declared.Verdict.{Verdict}
 use Rattle.model.specs.declared.Verdict.the-variants.{Pass}
 use Rattle.model.specs.Verdict.{refuseIf, _andThen_}
 use Rattle.pcep_model.specs.declared.MessageKind.{MessageKind}
-use Rattle.pcep_model.specs.declared.MessageKind.the-variants.{Pcreq, Pcrep}
-use Rattle.pcep_model.specs.Objects.{RP, END-POINTS, ERO, NO-PATH, objectsVerdict, messageVerdict}
+use Rattle.pcep_model.specs.Objects.{RP, bodyLacks, objectsVerdict, messageVerdict}
 use Rattle.pcep_objects.specs.declared.Objects.{Objects}
 use Rattle.pcep_objects.specs.Walked.{FirstsAre}
 
 -- 39, then 40 or 41, by where the first object of each class starts
-abbrev pub bodyMissing : MessageKind → List ℕ → Verdict
-bodyMissing Pcreq firsts = refuseIf (eqb (getD firsts END-POINTS 0) 0) 40 0
-bodyMissing Pcrep firsts = refuseIf (eqb (getD firsts ERO 0) 0 && eqb (getD firsts NO-PATH 0) 0) 41 0
-
 abbrev pub missingVerdict : MessageKind → List ℕ → Verdict
-missingVerdict k firsts = refuseIf (eqb (getD firsts RP 0) 0) 39 0 andThen bodyMissing k firsts
+missingVerdict k firsts = refuseIf (eqb (getD firsts RP 0) 0) 39 0 andThen bodyLacks k (λ (c : ℕ). getD firsts c 0)
 
 -- the verdict on the frame; where it passes, the first object of each class, and how long the message is
 pub record FrameIs (k : MessageKind) (s : List ℕ) (r : Objects) : Type 0 where

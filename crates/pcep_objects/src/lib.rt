@@ -93,10 +93,10 @@ fn size_wrong(class: u8, least: usize, n: usize, left: usize) -> bool
 }
 
 // What the check of an object says, its class, or 0 where it isn't known, and where the next one starts.
-pub struct Object {
-    pub verdict: Verdict,
-    pub class: usize,
-    pub next: usize,
+struct Object {
+    verdict: Verdict,
+    class: usize,
+    next: usize,
 }
 
 // The object at an offset.
@@ -161,7 +161,7 @@ fn first_of(known: u16, at: u16) -> u16
 }
 
 // The objects of a message, behind its header.
-pub fn objects_in(kind: MessageKind, message: &[u8]) -> Objects
+pub(crate) fn objects_in(kind: MessageKind, message: &[u8]) -> Objects
     requires { ⌜ (4 ≤ length (now message)) × (length (now message) ≤ 65535) ⌝ }
     ensures { λ r. ⌜ ObjectsAre kind (now (message .entry)) r ⌝ }
 {

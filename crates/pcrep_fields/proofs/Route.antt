@@ -9,12 +9,12 @@ use lib.Dec.{eqb, leb, ltb}
 use borrow.Author.Tests.{eqb-false, eq-eqb, not-true}
 use Rattle.model.specs.declared.Verdict.the-variants.{Pass}
 use Rattle.model.specs.Bytes.{part}
-use Rattle.laws.proofs.Tests.{and-both, and-false, or-neither, clash}
+use Rattle.laws.proofs.Tests.{and-both, and-false, or-neither, clash, not-not}
 use Rattle.pcep_model.specs.declared.Extent.{Extent}
 use Rattle.pcep_model.specs.declared.MessageKind.the-variants.{Pcrep}
 use Rattle.pcep_model.specs.Objects.{ERO, NO-PATH, sizeAt, firstObject, objectsVerdict, messageVerdict}
 use Rattle.pcep_model.specs.Pcreq.{extentOf, listIn}
-use Rattle.pcep_model.specs.Pcrep.{routeGiven, routeIn, natureOf, cFlagOf}
+use Rattle.pcep_model.specs.Pcrep.{metFirst, routeGiven, routeIn, natureOf, cFlagOf}
 use Rattle.pcep_laws.proofs.Found.{Stands, object-stands}
 use Rattle.pcep_laws.proofs.Message.{has-route}
 use Rattle.pcrep_fields.specs.Checked.{routeAt}
@@ -23,7 +23,7 @@ use Rattle.pcrep_fields.specs.Checked.{routeAt}
 
 module _ (e n : ℕ) where
   abbrev counts : Bool
-  counts = not (eqb e 0) && (eqb n 0 || ltb e n)
+  counts = metFirst e n
 
   there-by : (b : Bool) → counts ≡ b → not (eqb (cond b e 0) 0) ≡ b
   there-by true c = and-both (not (eqb e 0)) (eqb n 0 || ltb e n) c .0
@@ -86,10 +86,6 @@ module _ (s : List ℕ) where
   flip true x y = refl
   flip false x y = refl
 
-  not-not : (b : Bool) → b ≡ not (not b)
-  not-not true = refl
-  not-not false = refl
-
   pub found-is : not (eqb route 0) ≡ routeGiven s
   found-is = sym given
 
@@ -97,4 +93,4 @@ module _ (s : List ℕ) where
   nature-is = flip (eqb route 0) (getD s (firstObject NO-PATH s + 4) 0) 0 ∙ ap (λ (b : Bool). cond b 0 (getD s (firstObject NO-PATH s + 4) 0)) found-is
 
   pub c-is : (eqb route 0 && leb 128 (getD s (firstObject NO-PATH s + 5) 0)) ≡ cFlagOf s
-  c-is = ap (λ (b : Bool). b && leb 128 (getD s (firstObject NO-PATH s + 5) 0)) (not-not (eqb route 0) ∙ ap not found-is)
+  c-is = ap (λ (b : Bool). b && leb 128 (getD s (firstObject NO-PATH s + 5) 0)) (sym (not-not (eqb route 0)) ∙ ap not found-is)

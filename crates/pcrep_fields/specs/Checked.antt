@@ -1,10 +1,10 @@
 -- What the checks of a PCRep answer, over `Pcrep` of `pcep_model`.
 use Prim.Native.Nat.{ℕ, _+_, _≤_}
 use mathlib.Core.Path.{_≡_}
-use mathlib.Core.Bool.{not, cond, _&&_, _||_}
+use mathlib.Core.Bool.{cond, _&&_}
 use mathlib.Core.List.{List}
 use lib.ListN.{length, getD}
-use lib.Dec.{eqb, leb, ltb}
+use lib.Dec.{eqb, leb}
 use Rattle.model.specs.declared.Verdict.{Verdict}
 use Rattle.model.specs.declared.Verdict.the-variants.{Pass}
 use Rattle.model.specs.Verdict.{_andThen_}
@@ -13,7 +13,7 @@ use Rattle.pcep_model.specs.declared.MessageKind.the-variants.{Pcrep}
 use Rattle.pcep_model.specs.Objects.{RP, NO-PATH, objectsVerdict, messageVerdict}
 use Rattle.pcep_model.specs.Metrics.{metrics}
 use Rattle.pcep_model.specs.Pcreq.{listIn}
-use Rattle.pcep_model.specs.Pcrep.{eroVerdict, addressesIn, routeIn, pcrepFields, pcrepVerdict}
+use Rattle.pcep_model.specs.Pcrep.{metFirst, eroVerdict, addressesIn, routeIn, pcrepFields, pcrepVerdict}
 use Rattle.pcep_objects.specs.Walked.{FirstsAre}
 use Rattle.pcep_metrics.specs.Along.{Passed}
 use Rattle.pcrep_fields.specs.declared.Checked.{Checked}
@@ -21,7 +21,7 @@ use Rattle.pcrep_fields.specs.declared.Issue.{Issue}
 
 -- where the ERO that counts starts, 0 where a NO-PATH counts
 abbrev pub routeAt : ℕ → ℕ → ℕ
-routeAt ero noPath = cond (not (eqb ero 0) && (eqb noPath 0 || ltb ero noPath)) ero 0
+routeAt ero noPath = cond (metFirst ero noPath) ero 0
 
 pub record IssueIs (s : List ℕ) (route noPath : ℕ) (r : Issue) : Type 0 where
   pub nature : r .nature ≡ cond (eqb route 0) (getD s (noPath + 4) 0) 0

@@ -1,4 +1,4 @@
-// The fields of a PCRep, by where its first objects stand, and every check of one before its capacity.
+// The fields of a PCRep, by where its first objects stand, and every check of one.
 use ero::address_count;
 use ero::ero_verdict;
 use model::Verdict;

@@ -1,5 +1,4 @@
 // The call that reads a PCReq: the checks whose inputs it takes, the fields, and the METRICs into lent buffers.
-use model::Refusal;
 use model::Verdict;
 use pcep_metrics::lesser;
 use pcep_metrics::put_metrics;

@@ -51,7 +51,6 @@ module _ (s : List ℕ) (r : Objects) (f : FrameIs Pcreq s r) (pass : r .verdict
       let m = sym (f .verdict) ∙ pass in
       record {
         right = f .objects pass;
-        long = f .long pass;
         short = f .short pass;
         full = f .firsts-long;
         firsts-are = f .firsts pass;

@@ -18,7 +18,6 @@ use Rattle.pcreq_fields.specs.declared.Taken.{Taken}
 -- what the frame's checks leave: right objects, an RP and END-POINTS among them, the first of each class, and the number of METRICs
 pub record Framed (s firsts : List ℕ) (count : ℕ) : Type 0 where
   pub right : objectsVerdict Pcreq s 4 ≡ Pass
-  pub long : 4 ≤ length s
   pub short : length s ≤ 65535
   pub full : length firsts ≡ 18
   pub firsts-are : FirstsAre Pcreq s firsts

@@ -7,7 +7,7 @@ use denote.Ref.{now}
 use lib.ListN.{length, drop}
 use Rattle.model.specs.Lists.{any}
 use Rattle.pcep_model.specs.Metrics.{outOfRange}
-use Rattle.pcrep_writer.proofs.Scan.{any-hit, any-miss, any-end}
+use Rattle.laws.proofs.Scans.{any-hit, any-miss, any-end}
 use borrow.Author.Needs.{needs}
 use Rattle.pcrep_writer.proofs.out_of_range.Statement.{statement}
 use Rattle.pcrep_writer.proofs.out_of_range.Tie as tie
@@ -31,7 +31,7 @@ returns : tie.Need-returns Inv-loop μ-loop
 returns c =
     let a = c .before .before .before .before .args in
     let l = c .before .before .before .loop in
-    sym (any-hit outOfRange (now (a .values)) (l .i) (c .before .before .loop-test .taken) (le-leb _ _ (c .if1 .taken))) ∙ l .inv .1
+    sym (any-hit (now (a .values)) (l .i) (c .before .before .loop-test .taken) outOfRange (le-leb _ _ (c .if1 .taken))) ∙ l .inv .1
 
 add-i : tie.Need-add-i Inv-loop μ-loop
 add-i c = search needs
@@ -43,13 +43,13 @@ loop-again : tie.Need-loop-again Inv-loop μ-loop
 loop-again c =
     let a = c .before .before .before .before .args in
     let l = c .before .before .before .loop in
-    (omega arith, sym (any-miss outOfRange (now (a .values)) (l .i) (c .before .before .loop-test .taken) (lt-leb _ _ (c .if1 .left))) ∙ l .inv .1)
+    (omega arith, sym (any-miss (now (a .values)) (l .i) (c .before .before .loop-test .taken) outOfRange (lt-leb _ _ (c .if1 .left))) ∙ l .inv .1)
 
 returns-2 : tie.Need-returns-2 Inv-loop μ-loop
 returns-2 c =
     let a = c .before .before .args in
     let l = c .before .loop in
-    sym (any-end outOfRange (now (a .values)) (l .i) (c .loop-test .left)) ∙ l .inv .1
+    sym (any-end (now (a .values)) (l .i) (c .loop-test .left) outOfRange) ∙ l .inv .1
 
 pub out-of-range-spec : {M : Type 1} → statement M
 out-of-range-spec =

@@ -7,7 +7,7 @@ use borrow.Author.Tests.{eq-eqb, ne-eqb}
 use lib.Dec.{eqb}
 use lib.ListN.{length, drop}
 use Rattle.model.specs.Lists.{any, among}
-use Rattle.writable.proofs.Scans.{any-hit, any-miss, any-end}
+use Rattle.laws.proofs.Scans.{any-hit, any-miss, any-end}
 use Rattle.writable.proofs.comes_again.Statement.{statement}
 use Rattle.writable.proofs.comes_again.Tie as tie
 

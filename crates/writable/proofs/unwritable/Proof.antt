@@ -1,12 +1,11 @@
 -- `writable::unwritable` meets its contract: at each `return` the tests that led there give the value, the domain count being how many domain records there are.
 use Prim.Native.Nat.{ℕ, _≤_}
 use mathlib.Core.Path.{_≡_, refl, sym, ap, _∙_}
-use mathlib.Core.Bool.{Bool, true, not, _||_}
+use mathlib.Core.Bool.{Bool, not, _||_}
 use mathlib.Core.List.{List, [], _∷_}
-use lib.Dec.{eqb, leb, ltb}
+use lib.Dec.{eqb}
 use lib.ListN.{length, getD}
 use borrow.Author.Tests.{eq-eqb, ne-eqb, lt-ltb, le-ltb}
-use Rattle.model.specs.Lists.{any, allDifferent}
 use Rattle.model.specs.Profile.{domainCount, domains}
 use Rattle.model.specs.WrittenList.{firstPinned, unwritable}
 use Rattle.laws.proofs.Records.{length-domains}
