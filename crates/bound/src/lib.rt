@@ -1,37 +1,34 @@
-// A total and the bound: the total as the float of exactly its value, compared with the bound; and whether the source's number in a tree stands for an
-// admissible path.
+// A total as a float, the nearest one; a total and the bound; and whether the source's number in a tree stands for an admissible path.
 use model::Limits;
 use reaches::UNREACHABLE;
+use std::num::nearest_u32_to_f32;
 ghost use mathlib.Core.Path.{_≡_};
 ghost use mathlib.Core.Bool.{true};
-ghost use Prim.Native.Nat.{_≤_};
 ghost use Rattle.model.specs.Floats.{inRange, floatOf};
 ghost use Rattle.model.specs.Path.{keepsBound};
-ghost use Rattle.reaches.specs.Reaches.{unreachable};
 ghost use Rattle.bound.specs.Kept.{keptBy};
 
-// A total is below 2 to the 24th, so its float has exactly its value.
+// The total as a 32-bit float, for whoever asked: nothing is compared with it, since it may lie on either side of the total.
 pub fn total_float(total: u32) -> f32
-    requires { ⌜ total ≤ 1048560 ⌝ }
     ensures { λ r. ⌜ (r ≡ floatOf total) × (inRange r ≡ true) ⌝ }
 {
-    total as f32
+    nearest_u32_to_f32(total)
 }
 
-// The bound is kept, where it counts.
+// The bound is kept, where it counts. The total and the bound are 64-bit floats exactly, and there they are compared.
 pub fn keeps_bound(limits: Limits, total: u32) -> bool
-    requires { ⌜ (total ≤ 1048560) × (limits .bounded ≡ true → inRange (limits .bound) ≡ true) ⌝ }
+    requires { ⌜ (limits .bounded ≡ true → inRange (limits .bound) ≡ true) ⌝ }
     ensures { λ r. ⌜ r ≡ keepsBound limits total ⌝ }
 {
     if !limits.bounded {
         return true;
     }
-    total_float(total) <= limits.bound
+    (total as f64) <= (limits.bound as f64)
 }
 
 // The source reaches the destination, and its least cost keeps the bound.
 pub fn admissible(limits: Limits, here: u32) -> bool
-    requires { ⌜ ((here ≡ unreachable → ⊥) → here ≤ 1048560) × (limits .bounded ≡ true → inRange (limits .bound) ≡ true) ⌝ }
+    requires { ⌜ (limits .bounded ≡ true → inRange (limits .bound) ≡ true) ⌝ }
     ensures { λ r. ⌜ r ≡ keptBy limits here ⌝ }
 {
     if here == UNREACHABLE {

@@ -1,29 +1,29 @@
--- The machine's comparisons of 32-bit floats in range are those of their exact values in units of 2^-149, and the float of a total has exactly its value.
+-- The machine's comparisons of 32-bit floats in range, and at 64 bits of a total and such a float, are those of their exact values in units of 2^-149.
 -- A float in range is finite and has no sign, and 2^-149 divides it, so that it is a whole number of units. Two such fractions are then compared over one denominator.
 use mathlib.Core.Path.{_≡_, refl, sym, ap, ap₂, _∙_, subst}
 use mathlib.Core.Bool.{Bool, true, false, not, _&&_, _||_, cond, true≢false, false≢true}
 use Prim.Native.Nat.{ℕ, zero, suc, _+_, _-_, _*_, _/_, _%_, _^_, _≤_, _<_, _∣_}
-use native.Mathlib.Nat.{le-of-eq, le-of-lt, le-of-suc-le-suc, lt-irrefl, lt-of-lt-of-le, lt-of-not-le, not-le-of-lt, zero-mul, one-mul, mul-one, mul-pos, mul-right-comm, mul-le-mul-right, mul-lt-mul-of-pos-right, le-of-mul-le-mul-right, mul-div-cancel, div-mul-cancel, div-lt-iff-lt-mul, one-dvd, dvd-mul-left, dvd-mul-left-of-dvd, mod-eq-of-lt}
+use native.Mathlib.Nat.{le-of-eq, le-of-lt, le-of-suc-le-suc, lt-irrefl, lt-of-lt-of-le, lt-of-not-le, not-le-of-lt, zero-mul, one-mul, mul-one, mul-pos, mul-right-comm, mul-le-mul-right, mul-lt-mul-of-pos-right, le-of-mul-le-mul-right, div-mul-cancel, div-lt-iff-lt-mul, one-dvd, dvd-mul-left, dvd-mul-left-of-dvd, mod-eq-of-lt}
 use native.Mathlib.Omega.{arith}
 use borrow.Author.Tests.{ltb-true, ltb-false, leb-true, leb-false, eqb-true, eqb-false, lt-ltb, le-ltb, le-leb, lt-leb}
 use lib.IntN.{ℤ, pos, negsuc}
-use lib.Dec.{T, leb, ltb, eqb, leb→le, le→leb, ltb→lt, eqb→eq, eqb-refl}
+use lib.Dec.{T, leb, ltb, eqb, leb→le, ltb→lt, eqb→eq, eqb-refl}
 use lib.Arith.{lt-of-le-ne}
 use lib.Pow.{pow-add, pow-pos, pow-lt}
-use lib.Ieee.{Float, nan, inf, fin, binary32, up, down, size, round, fits, isNan, ofBits, toBits, nanBits, ofInt, inFloat, le, lt, ne}
+use lib.Ieee.{Float, nan, inf, fin, binary32, binary64, up, down, size, round, fits, isNan, ofBits, toBits, nanBits, ofInt, le, lt, ne}
 use lib.Ieee.Digits.{back, size-le}
-use lib.Ieee.Fits.{and-l, and-r, down-pos, kept-lt, ofInt-fits}
+use lib.Ieee.Fits.{and-i, and-l, and-r, down-pos, kept-lt, fits-widens}
 use lib.Ieee.Exact.{HasValue}
 use lib.Ieee.Back.{round-whole}
 use lib.Ieee.Bits.{toBits-ofBits, ofBits-fits, nanBits-is, nanBits-above}
 use lib.Ieee.Order.{transfer}
 use Rattle.laws.proofs.Tests.{true-T, T-true, false-T, and-both, both-and}
-use Rattle.model.specs.Floats.{units, inRange, atLeast, atMost, floatOf}
+use Rattle.model.specs.Floats.{units, inRange, atLeast, atMost}
 
 -- ---- which floats are in range
 
 -- the bits of a finite float, by its units
-bits-by-units : (s : Bool) (m : ℕ) (e : ℤ) → toBits binary32 (fin s m e) ≡ cond s 0x80000000 0 + (size (units (fin s m e)) - 24) * 2 ^ 23 + units (fin s m e) / 2 ^ (size (units (fin s m e)) - 24)
+pub bits-by-units : (s : Bool) (m : ℕ) (e : ℤ) → toBits binary32 (fin s m e) ≡ cond s 0x80000000 0 + (size (units (fin s m e)) - 24) * 2 ^ 23 + units (fin s m e) / 2 ^ (size (units (fin s m e)) - 24)
 unfolding units toBits
 bits-by-units s m e = refl
 
@@ -42,7 +42,7 @@ in-range-finite (fin true m e) h =
 in-range-finite (fin false m e) h = (m, e, refl)
 
 -- what a value that fits says of its exponent and of its size
-fits-low : (s : Bool) (m : ℕ) (e : ℤ) → T (fits binary32 (fin s m e)) → down e ≤ 2 ^ 149
+pub fits-low : (s : Bool) (m : ℕ) (e : ℤ) → T (fits binary32 (fin s m e)) → down e ≤ 2 ^ 149
 unfolding fits
 fits-low s zero (pos k) h = pow-pos 149
 fits-low s zero (negsuc k) h = subst (λ (d : ℕ). d ≤ 2 ^ 149) (sym (sym (one-mul (2 ^ suc k)) ∙ eqb→eq (1 * 2 ^ suc k) 1 h)) (pow-pos 149)
@@ -122,7 +122,7 @@ in-range-bits n h =
 
 -- ---- the exact value
 
-pow-le-back : (a l : ℕ) → 2 ^ a ≤ 2 ^ l → a ≤ l
+pub pow-le-back : (a l : ℕ) → 2 ^ a ≤ 2 ^ l → a ≤ l
 pow-le-back a l h = le-of-suc-le-suc (lt-of-not-le (λ (g : suc l ≤ a). lt-irrefl (2 ^ l) (lt-of-lt-of-le (pow-lt g) h)))
 
 -- 2 ^ -l divides a fraction whose denominator is at most 2 ^ l
@@ -202,34 +202,27 @@ pub bandwidth-exact : (x y : Float) → T (fits binary32 x) → T (fits binary32
 unfolding atLeast
 bandwidth-exact = units-order
 
--- ---- the float of a total
+-- ---- a total and the bound
 
-whole-value : (x : Float) (t : ℕ) → T (fits binary32 x) → HasValue x false t 1 → (units x ≡ t * 2 ^ 149) × (inRange x ≡ true)
-unfolding units
-whole-value nan t f v = absurd v
-whole-value (inf s) t f v = absurd v
-whole-value (fin true m e) t f v = absurd (true≢false (v .0))
-whole-value (fin false m e) t f v = (
-  ap (λ (a : ℕ). a * 2 ^ 149 / down e) (sym (mul-one (m * up e)) ∙ v .1) ∙ ap (λ (a : ℕ). a / down e) (mul-right-comm t (down e) (2 ^ 149)) ∙ mul-div-cancel (t * 2 ^ 149) (down-pos e),
-  finite-in-range m e f,
-)
+-- a float in range is a 64-bit float too, so its cast is defined
+pub widens : (x : Float) → T (fits binary32 x) → inRange x ≡ true → T (fits binary64 x && not (isNan x))
+widens x f r = and-i (fits binary64 x) (not (isNan x)) (fits-widens x f) (in-range-says x r .0)
 
--- the cast of a total is defined
-pub total-cast-defined : (t : ℕ) → t < 2 ^ 24 → T (inFloat binary32 (pos t))
-unfolding inFloat
-total-cast-defined t h = le→leb t (2 ^ 24) (le-of-lt h)
+-- what is a total exactly, in units; and beside a float in range
+pub value-in-units : (x : Float) (t : ℕ) → HasValue x false t 1 → HasValue x false (t * 2 ^ 149) (2 ^ 149)
+value-in-units nan t v = absurd v
+value-in-units (inf s) t v = absurd v
+value-in-units (fin s m e) t v = (v .0, ap (λ (a : ℕ). a * 2 ^ 149) (sym (mul-one (m * up e)) ∙ v .1) ∙ mul-right-comm t (down e) (2 ^ 149))
 
--- the float of a total is in range, and has exactly its value
-pub float-of-total : (t : ℕ) → t < 2 ^ 24 → (units (floatOf t) ≡ t * 2 ^ 149) × (inRange (floatOf t) ≡ true) × T (fits binary32 (floatOf t))
-unfolding floatOf ofInt
-float-of-total t h =
-    let f : T (fits binary32 (ofInt binary32 (pos t))) = ofInt-fits binary32 (pos t) in
-    let w = whole-value (round binary32 false t 1) t f (round-whole binary32 false t (le-of-lt h)) in
-    (w .0, w .1, f)
+total-order : (x : Float) (t : ℕ) (b : Float) → HasValue x false t 1 → T (fits binary32 b) → inRange b ≡ true → le x b ≡ leb (t * 2 ^ 149) (units b)
+total-order nan t b v f r = absurd v
+total-order (inf s) t b v f r = absurd v
+total-order (fin true m e) t b v f r = absurd (true≢false (v .0))
+total-order (fin false m e) t b v f r =
+    let z = units-exact b f r in
+    ap (le (fin false m e)) (z .2) ∙ le-cross m (z .0) e (z .1) ∙ cross m (z .0) e (z .1) (t * 2 ^ 149) (units b) (2 ^ 149) (pow-pos 149) (value-in-units (fin false m e) t v .1) (sym (z .3))
 
--- the machine's test that a total is at most a bound
-pub bound-exact : (t : ℕ) (b : Float) → t < 2 ^ 24 → T (fits binary32 b) → inRange b ≡ true → le (floatOf t) b ≡ atMost t b
-unfolding atMost
-bound-exact t b h f r =
-    let w = float-of-total t h in
-    units-order (floatOf t) b (w .2) f (w .1) r ∙ ap (λ (u : ℕ). leb u (units b)) (w .0)
+-- the machine's test at 64 bits that a total is at most a bound: both are 64-bit floats exactly
+pub bound-exact : (t : ℕ) (b : Float) → t < 2 ^ 32 → T (fits binary32 b) → inRange b ≡ true → le (ofInt binary64 (pos t)) b ≡ atMost t b
+unfolding atMost ofInt
+bound-exact t b h f r = total-order (round binary64 false t 1) t b (round-whole binary64 false t (omega arith)) f r

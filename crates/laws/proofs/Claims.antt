@@ -33,6 +33,7 @@ use Rattle.laws.proofs.SeriesListing.{firstWith, nextWith, firstThenNex
 pub use Rattle.laws.proofs.ClassesApart.{classes-apart}
 pub use Rattle.laws.proofs.TreeLeast.{tree-least}
 pub use Rattle.laws.proofs.BoundExact.{bound-exact, bandwidth-exact}
+pub use Rattle.laws.proofs.NearestFloat.{float-exact, float-nearest, float-within-eight}
 pub use Rattle.laws.proofs.ReadsBack.{reads-back, written-short}
 pub use Rattle.laws.proofs.Lacking.{lacking-clear, lacking-desired, lacking-inserted, clear-inserted}
 

@@ -4,6 +4,8 @@ pub mod Lists
 pub mod Scans
 pub mod Below
 pub mod BoundExact
+pub mod Rounding
+pub mod NearestFloat
 pub mod Bits
 pub mod Ascending
 pub mod ShortestPathsExact

@@ -9,9 +9,10 @@ use native.Mathlib.Nat.{eq-or-lt-of-le}
 use native.Mathlib.Omega.{arith}
 use lib.ListN.{length, getD}
 use Rattle.model.specs.declared.Hop.{Hop}
+use Rattle.model.specs.Profile.{costLimit}
 use Rattle.model.specs.Sequence.{Stop}
 use Rattle.model.specs.Request.{Search}
-use Rattle.model.specs.Path.{legs, IsPath, total, keepsBound, Admissible, allowed, Route, paths, admissible}
+use Rattle.model.specs.Path.{legs, IsPath, total, keepsBound, Admissible, allowed, Route, paths, admissible, totalLimit}
 use Rattle.laws.proofs.Lists.{keep-mem, mem-keep, map-mem, mem-map, sorted-keep}
 use Rattle.laws.proofs.Allowed.{allowed-node, allowed-domain, allowed-pin, allowed-destination, domain-allowed, destination-allowed}
 use Rattle.laws.proofs.HopKeys.{SortedHops}
@@ -103,12 +104,12 @@ paths-total-bound S most c r m =
 pub paths-total-limit
     : (S : Search)
     → length (S .sequence) ≤ 16
-    → ((h : Hop) → List·Memᴰ h (S .hops) → h .cost ≤ 65535)
+    → ((h : Hop) → List·Memᴰ h (S .hops) → h .cost ≤ costLimit)
     → (r : Route)
     → List·Memᴰ r (paths S)
-    → r .total ≤ 1048560
+    → r .total ≤ totalLimit
 paths-total-limit S l c r m =
-    let b = paths-total-bound S 65535 c r m in
+    let b = paths-total-bound S costLimit c r m in
     omega arith
 
 -- ---- the law
@@ -122,13 +123,13 @@ pub record ThePaths (S : Search) : Type 0 where
   pub once : (p : List ℕ) (before after : List (List ℕ)) → map addressesOf (paths S) ≡ before ++ p ∷ after → (List·Memᴰ p before → ⊥) × (List·Memᴰ p after → ⊥)
   -- its total is the sum of the costs of its hops, and at most 1,048,560
   pub totals : (r : Route) → List·Memᴰ r (paths S) → r .total ≡ total S (r .addresses)
-  pub limit : (r : Route) → List·Memᴰ r (paths S) → r .total ≤ 1048560
+  pub limit : (r : Route) → List·Memᴰ r (paths S) → r .total ≤ totalLimit
 
 pub paths-are-the-paths
     : (S : Search)
     → SortedHops (S .hops)
     → length (S .sequence) ≤ 16
-    → ((h : Hop) → List·Memᴰ h (S .hops) → h .cost ≤ 65535)
+    → ((h : Hop) → List·Memᴰ h (S .hops) → h .cost ≤ costLimit)
     → ThePaths S
 paths-are-the-paths S s l c =
     record {

@@ -1,13 +1,12 @@
 -- Paths, their totals, the bound and the shortest paths: document 01, "Paths and the tree". `IsPath` and `Admissible` say in document 01's words what
 -- the enumeration below lists; that they agree is a law. Document 01's "listing" is `shortestPaths`, its "way" a suffix.
-use Prim.Native.Nat.{ℕ, zero, suc, _+_, _≤_, _<_}
+use Prim.Native.Nat.{ℕ, suc, _+_, _≤_, _<_}
 use mathlib.Core.Path.{_≡_}
 use mathlib.Core.Bool.{Bool, true, false, not, _&&_}
 use mathlib.Core.List.{List, [], _∷_, map, List·Memᴰ}
 use mathlib.Core.Option.{Option, none, some}
 use lib.ListN.{length, getD}
 use lib.Dec.{eqb, leb, ltb}
-use Rattle.model.specs.declared.Domain.{Domain}
 use Rattle.model.specs.declared.Hop.{Hop}
 use Rattle.model.specs.declared.Limits.{Limits}
 use Rattle.model.specs.Lists.{all, each, keep}
@@ -89,6 +88,10 @@ totalOver hs (leg ∷ rest) (a ∷ b ∷ more) = costBetween hs leg a b + totalO
 
 abbrev pub total : Search → List ℕ → ℕ
 total S p = totalOver (S .hops) (legs (S .sequence)) p
+
+-- the largest total: sixteen hops of the largest cost
+abbrev pub totalLimit : ℕ
+totalLimit = 1048560
 
 -- the bound, where it counts
 abbrev pub boundKept : Bool → Limits → ℕ → Bool

@@ -1,6 +1,6 @@
 -- What a profile file holds, and the checks 10 to 19 in document 01's order: "What a profile file holds" and "Numbers the calculator gives".
 use Prim.Native.Nat.{ℕ, zero, suc, _+_, _*_}
-use mathlib.Core.Bool.{Bool, true, false, not, _&&_, _||_}
+use mathlib.Core.Bool.{Bool, false, not, _&&_, _||_}
 use mathlib.Core.List.{List, [], _∷_, map}
 use lib.ListN.{length, getD, take, drop}
 use lib.Dec.{eqb, leb, ltb}
@@ -20,8 +20,12 @@ pub record Layout : Type 0 where
   pub mostCost : ℕ
   pub mostHops : ℕ
 
+-- the largest cost of a hop, in every version
+abbrev pub costLimit : ℕ
+costLimit = 65535
+
 abbrev pub version1 : Layout
-version1 = record { hopSize = 20; costAt = 12; mostCost = 65535; mostHops = 3000 }
+version1 = record { hopSize = 20; costAt = 12; mostCost = costLimit; mostHops = 3000 }
 
 -- ---- header, 12 bytes: mark DSP, version u16, class u8, domain count u16, hop count u16, two zero bytes
 

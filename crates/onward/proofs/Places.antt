@@ -9,7 +9,7 @@ use lib.ListN.{length, drop, getD, take-append-drop, length-take}
 use lib.Seq.{slice}
 use Rattle.model.specs.declared.Hop.{Hop}
 use Rattle.model.specs.Lists.{countFrom, each}
-use Rattle.model.specs.Profile.{Layout, hops}
+use Rattle.model.specs.Profile.{Layout, hops, costLimit}
 use Rattle.model.specs.Sequence.{Stop}
 use Rattle.model.specs.Request.{Search}
 use Rattle.model.specs.Path.{Leg, legs, legAt, noLeg}
@@ -61,7 +61,7 @@ module _
     pub few : length (S .sequence) ≤ 16
     few = omega (arith, long, w .most)
 
-    pub cheap : (x : Hop) → List·Memᴰ x (S .hops) → x .cost ≤ 65535
+    pub cheap : (x : Hop) → List·Memᴰ x (S .hops) → x .cost ≤ costLimit
     cheap x m =
         let k = accepted-costs L s (w .profile-right) x (subst (λ (hs : List Hop). List·Memᴰ x hs) (w .hops-are) m) in
         omega (arith, w .cheap)

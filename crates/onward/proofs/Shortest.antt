@@ -12,7 +12,7 @@ use Rattle.model.specs.declared.Hop.{Hop}
 use Rattle.model.specs.declared.NodeAddress.{NodeAddress}
 use Rattle.model.specs.Floats.{atLeast}
 use Rattle.model.specs.Lists.{keep}
-use Rattle.model.specs.Profile.{Layout, hops, between}
+use Rattle.model.specs.Profile.{Layout, hops, between, costLimit}
 use Rattle.model.specs.Request.{Search}
 use Rattle.model.specs.Path.{Leg, legAt, leaves, hopsFrom}
 use Rattle.model.specs.Tree.{suffixesAt}
@@ -62,7 +62,7 @@ module _
     short : length (S .sequence) ≤ 16
     short = few S L s q addresses codes starts firsts lasts w i h
 
-    low : (x : Hop) → List·Memᴰ x (S .hops) → x .cost ≤ 65535
+    low : (x : Hop) → List·Memᴰ x (S .hops) → x .cost ≤ costLimit
     low = cheap S L s q addresses codes starts firsts lasts w i h
 
     -- what stands beside the head of a hop of the leg

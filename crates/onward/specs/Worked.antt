@@ -6,7 +6,7 @@ use Prim.Native.Nat.{ℕ, _≤_, _<_}
 use lib.ListN.{length, getD}
 use Rattle.model.specs.declared.Verdict.the-variants.{Pass}
 use Rattle.model.specs.Floats.{inRange}
-use Rattle.model.specs.Profile.{Layout, hops, profileVerdict}
+use Rattle.model.specs.Profile.{Layout, hops, profileVerdict, costLimit}
 use Rattle.model.specs.Request.{Search}
 use Rattle.records.specs.Layout.{Sound}
 use Rattle.request.specs.declared.Query.{Query}
@@ -18,7 +18,7 @@ use Rattle.vspt.specs.Tree.{WorkedOut}
 pub record Worked (S : Search) (L : Layout) (s : List ℕ) (q : Query) (addresses codes starts firsts lasts : List ℕ) : Type 0 where
   pub sound : Sound L
   pub bytes : (i : ℕ) → getD s i 0 < 256
-  pub cheap : L .mostCost ≤ 65535
+  pub cheap : L .mostCost ≤ costLimit
   pub profile-right : profileVerdict L s ≡ Pass
   pub bandwidth-right : inRange (q .limits .bandwidth) ≡ true
   pub hops-are : S .hops ≡ hops L s

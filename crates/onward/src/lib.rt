@@ -15,7 +15,7 @@ ghost use Prim.Native.Nat.{_≤_, _<_};
 ghost use lib.Seq.{slice};
 ghost use Rattle.model.specs.declared.Verdict.the-variants.{Pass};
 ghost use Rattle.model.specs.Floats.{inRange};
-ghost use Rattle.model.specs.Profile.{profileVerdict, hops, hopCount};
+ghost use Rattle.model.specs.Profile.{profileVerdict, hops, hopCount, costLimit};
 ghost use Rattle.model.specs.Request.{Search};
 ghost use Rattle.laws.proofs.Split.{onShortest};
 ghost use Rattle.records.specs.Layout.{layoutOf, Sound};
@@ -59,7 +59,7 @@ fn wanted(which: Heads, head: NodeAddress) -> bool
 
 // The hop's cost with what is left at its head is what is left here.
 fn on_shortest(h: Hop, here: u32, there: u32) -> bool
-    requires { ⌜ (h .cost ≤ 65535) × Small there × (here < unreachable) ⌝ }
+    requires { ⌜ (h .cost ≤ costLimit) × Small there × (here < unreachable) ⌝ }
     ensures { λ r. ⌜ r ≡ onShortest (reachOf here) h (reachOf there) ⌝ }
 {
     if there == UNREACHABLE {
@@ -79,7 +79,7 @@ fn tried(
     from: usize,
     to: usize,
 ) -> Onward
-    requires { ⌜ (h .cost ≤ 65535) × (inRange asked ≡ true) × (inRange (h .bandwidth) ≡ true) × (here < unreachable) ⌝ }
+    requires { ⌜ (h .cost ≤ costLimit) × (inRange asked ≡ true) × (inRange (h .bandwidth) ≡ true) × (here < unreachable) ⌝ }
     requires { ⌜ NextPlace (now addresses) (now reaches) from to ⌝ }
     ensures { λ r. ⌜ r .found ≡ isTaken asked here which (slice from to (now (addresses .entry))) (slice from to (now (reaches .entry))) h ⌝ }
     ensures { λ r. ⌜ (r .found ≡ true → (h .head ≡ r .head) × (r .reach ≡ beside (slice from to (now (addresses .entry))) (slice from to (now (reaches .entry))) (h .head .0))) ⌝ }
@@ -109,7 +109,7 @@ fn scan(
     from: usize,
     to: usize,
 ) -> Onward
-    requires { ⌜ Sound (layoutOf layout) × (layoutOf layout .mostCost ≤ 65535) × (profileVerdict (layoutOf layout) (now s) ≡ Pass) ⌝ }
+    requires { ⌜ Sound (layoutOf layout) × (layoutOf layout .mostCost ≤ costLimit) × (profileVerdict (layoutOf layout) (now s) ≡ Pass) ⌝ }
     requires { ⌜ (range .first ≤ range .last) × (range .last ≤ hopCount (now s)) × (inRange asked ≡ true) × (here < unreachable) ⌝ }
     requires { ⌜ NextPlace (now addresses) (now reaches) from to ⌝ }
     ensures { λ r. ⌜ FirstTaken asked here which (slice from to (now (addresses .entry))) (slice from to (now (reaches .entry))) (slice (range .first) (range .last) (hops (layoutOf layout) (now (s .entry)))) r ⌝ }

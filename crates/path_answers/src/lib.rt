@@ -4,7 +4,6 @@ use model::PathAnswer;
 use model::Refusal;
 use path_search::Sought;
 ghost use mathlib.Core.Path.{_≡_};
-ghost use mathlib.Core.Bool.{true};
 ghost use mathlib.Core.List.{List};
 ghost use Prim.Native.Nat.{ℕ, suc, _≤_, _<_};
 ghost use Rattle.model.specs.Request.{Search};
@@ -52,7 +51,7 @@ fn none_answer(again: bool) -> PathAnswer
 
 // The path found, or the answer that there is none.
 pub fn answered(sought: Sought, count: usize, again: bool) -> Routed
-    requires { ⌜ (count < 17) × (sought .found ≡ true → sought .total ≤ 1048560) ⌝ }
+    requires { ⌜ count < 17 ⌝ }
     ensures { λ x. ⌜ ((S : Search) (given : List ℕ) (room : ℕ) → SoughtIs S given (suc count) sought → suc count ≤ room → RoutedBy (firstOf (sought .round) (noneNumber again) (greaterThan given (shortestPaths S))) room x) ⌝ }
 {
     let path = sought.path;

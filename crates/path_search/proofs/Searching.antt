@@ -6,12 +6,11 @@ use mathlib.Core.List.{List, [], _∷_, head?}
 use mathlib.Core.Option.{Option, none, some}
 use Prim.Native.Nat.{ℕ, suc, _+_, _≤_, _<_}
 use native.Mathlib.Omega.{arith}
-use lib.Dec.{eqb}
 use lib.ListN.{length, take, drop, getD}
 use lib.Seq.{length-paste, take-at}
 use borrow.Author.Tests.{eq-eqb, ne-eqb}
 use Rattle.model.specs.Lists.{isEmpty, below, keep}
-use Rattle.model.specs.Profile.{Layout, hops}
+use Rattle.model.specs.Profile.{Layout, hops, costLimit}
 use Rattle.model.specs.Request.{Search}
 use Rattle.model.specs.Path.{legs, keepsBound, Route, suffixes, admissible, cheapest, shortestPaths}
 use Rattle.model.specs.Calls.{greaterThan}
@@ -45,7 +44,7 @@ use Rattle.path_search.specs.Sought.{SoughtPath, SoughtIs, SoughtFor}
 -- what was worked out for a ready query
 pub worked-for
     : (L : Layout) (s exclude : List ℕ) (q : Query) (addresses codes starts firsts lasts : List ℕ) (examined : ℕ)
-    → Sound L → L .mostCost ≤ 65535 → ((i : ℕ) → getD s i 0 < 256) → Ready L s exclude q
+    → Sound L → L .mostCost ≤ costLimit → ((i : ℕ) → getD s i 0 < 256) → Ready L s exclude q
     → WorkedOut L s (searchFor L s exclude q) addresses codes starts firsts lasts examined
     → Worked (searchFor L s exclude q) L s q addresses codes starts firsts lasts
 worked-for L s exclude q addresses codes starts firsts lasts examined sound cheap bytes ready out =
@@ -64,7 +63,7 @@ worked-for L s exclude q addresses codes starts firsts lasts examined sound chea
       out = out;
     }
 
-module _ (L : Layout) (s exclude : List ℕ) (q : Query) (cheap : L .mostCost ≤ 65535) (bytes : (i : ℕ) → getD s i 0 < 256) (ready : Ready L s exclude q) where
+module _ (L : Layout) (s exclude : List ℕ) (q : Query) (cheap : L .mostCost ≤ costLimit) (bytes : (i : ℕ) → getD s i 0 < 256) (ready : Ready L s exclude q) where
   abbrev S : Search
   S = searchFor L s exclude q
 
@@ -146,7 +145,6 @@ module _ (L : Layout) (s exclude : List ℕ) (q : Query) (cheap : L .mostCost �
                     sym
                     (ap (take (suc (q .count))) (w .holds ∙ ap (λ (x : Option Route). routed 0 x old) e ∙ pasted old 0 (r .addresses))
                     ∙ take-at (r .addresses) (drop (0 + length (r .addresses)) old) (suc (q .count)) (size r e));
-                small = small L s exclude q cheap ready here is some-way;
               }
 
 -- a query whose round is settled: what is found for it is what is sought for the given one

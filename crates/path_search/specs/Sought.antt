@@ -3,7 +3,7 @@ use mathlib.Core.Path.{_≡_}
 use mathlib.Core.Bool.{Bool, true, false}
 use mathlib.Core.List.{List, [], _∷_, head?}
 use mathlib.Core.Option.{none, some}
-use Prim.Native.Nat.{ℕ, suc, _≤_}
+use Prim.Native.Nat.{ℕ, suc}
 use lib.Dec.{eqb, ltb}
 use lib.ListN.{length, take}
 use Rattle.model.specs.Profile.{Layout}
@@ -32,7 +32,6 @@ pub record SoughtPath (S : Search) (given : List ℕ) (long : ℕ) (r : Sought) 
   pub first : head? (greaterThan given (shortestPaths S)) ≡ some path
   pub total-is : path .total ≡ r .total
   pub addresses-are : path .addresses ≡ take long (r .path)
-  pub small : r .total ≤ 1048560
 
 pub record SoughtIs (S : Search) (given : List ℕ) (long : ℕ) (r : Sought) : Type 0 where
   pub there : r .found ≡ true → SoughtPath S given long r

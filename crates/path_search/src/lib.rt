@@ -10,8 +10,9 @@ use records::layout::Layout;
 use request::Query;
 use rounds::settle;
 ghost use mathlib.Core.Path.{_≡_};
-ghost use Prim.Native.Nat.{ℕ, suc, _≤_, _<_};
+ghost use Prim.Native.Nat.{suc, _≤_, _<_};
 ghost use lib.ListN.{length};
+ghost use Rattle.model.specs.Profile.{costLimit};
 ghost use Rattle.model.specs.Request.{Search};
 ghost use Rattle.laws.proofs.NextSplit.{nextFrom};
 ghost use Rattle.records.specs.Layout.{layoutOf, Sound};
@@ -113,7 +114,7 @@ fn above(
 
 // The first of the shortest paths above the given list, in the round that applies; of all where the list is empty.
 pub fn search(s: &[u8], layout: Layout, exclude: &[u8], q: Query, given: &[u32]) -> Sought
-    requires { ⌜ Sound (layoutOf layout) × (layoutOf layout .mostCost ≤ 65535) × Ready (layoutOf layout) (now s) (now exclude) q ⌝ }
+    requires { ⌜ Sound (layoutOf layout) × (layoutOf layout .mostCost ≤ costLimit) × Ready (layoutOf layout) (now s) (now exclude) q ⌝ }
     requires { ⌜ (1 ≤ length (now given) → length (now given) ≡ suc (q .count)) ⌝ }
     ensures { λ r. ⌜ SoughtFor (layoutOf layout) (now (s .entry)) (now (exclude .entry)) q (now (given .entry)) r ⌝ }
 {

@@ -1,14 +1,13 @@
 -- Reaches as numbers: there and back, and what stands beside an address. By the tests of the definitions.
 use mathlib.Core.Path.{_≡_, refl, sym, ap, _∙_}
 use mathlib.Core.Bool.{Bool, true, false, not}
-use mathlib.Core.List.{List, [], _∷_}
-use Prim.Native.Nat.{ℕ, suc, _+_, _≤_, _<_}
+use Prim.Native.Nat.{ℕ, _+_, _^_, _≤_, _<_}
 use native.Mathlib.Omega.{arith}
 use lib.Dec.{eqb}
 use borrow.Author.Tests.{eqb-true, eqb-false, eq-eqb, ne-eqb}
-use Rattle.laws.proofs.Tests.{decide}
+use Rattle.model.specs.Profile.{costLimit}
 use Rattle.laws.proofs.Reach.{Reach, unreached, reachIf, better, via, better-none, better-first, better-less, better-not-less}
-use Rattle.reaches.specs.Reaches.{unreachable, codeIf, codeOf, reachOf, Small}
+use Rattle.reaches.specs.Reaches.{unreachable, codeOf, reachOf, Small}
 
 -- ---- a number that is no cost, and one that is
 
@@ -19,6 +18,10 @@ pub reach-some : (n : ℕ) → (n ≡ unreachable → ⊥) → reachOf n ≡ rec
 reach-some n h = ap (λ (b : Bool). reachIf (not b) (record { reachable = true; cost = n })) (ne-eqb n unreachable h)
 
 -- ---- one hop more
+
+-- the sum of a hop's cost and a number behind it is a cost
+pub cost-fits : (cost there : ℕ) → cost ≤ costLimit → Small there → (there ≡ unreachable → ⊥) → there < 2 ^ 32 → cost + there < unreachable
+cost-fits cost there h small some fits = let k = small (omega arith) in omega arith
 
 module _ (best cost there : ℕ) where
   -- nothing behind the hop

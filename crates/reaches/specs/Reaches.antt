@@ -1,13 +1,14 @@
 -- How an entry reaches the destination as one number: its least cost, or `unreachable`. Cost 0 is a price like any other.
 use mathlib.Core.Bool.{Bool, true, false, not}
 use mathlib.Core.List.{List, [], _∷_}
-use Prim.Native.Nat.{ℕ, _-_, _≤_, _<_}
+use Prim.Native.Nat.{ℕ, _+_, _-_, _≤_, _<_}
 use lib.ListN.{length}
 use lib.Dec.{eqb}
 use lib.Ieee.{Float}
 use lib.Seq.{slice}
 use Rattle.model.specs.declared.Hop.{Hop}
 use Rattle.model.specs.Floats.{atLeast}
+use Rattle.model.specs.Profile.{costLimit}
 use Rattle.model.specs.Request.{Search}
 use Rattle.model.specs.Tree.{entry}
 use Rattle.laws.proofs.Reach.{Reach, reachIf, via}
@@ -33,7 +34,7 @@ codeAt S i a = codeIf ((entry S i a) .reachable) ((entry S i a) .cost)
 
 -- a number to which the cost of a hop can be added
 abbrev pub Small : ℕ → Type 0
-Small n = n < unreachable → n ≤ 4294901759
+Small n = n < unreachable → costLimit + n < unreachable
 
 -- the number that stands beside an address; unreachable where the address isn't there
 abbrev pub besideIf : Bool → ℕ → ℕ → ℕ

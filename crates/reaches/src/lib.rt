@@ -13,7 +13,7 @@ ghost use lib.ListN.{length};
 ghost use lib.Seq.{slice};
 ghost use Rattle.model.specs.declared.Verdict.the-variants.{Pass};
 ghost use Rattle.model.specs.Floats.{inRange};
-ghost use Rattle.model.specs.Profile.{profileVerdict, hops, hopCount};
+ghost use Rattle.model.specs.Profile.{profileVerdict, hops, hopCount, costLimit};
 ghost use Rattle.laws.proofs.Reach.{unreached, better, via, bestFrom};
 ghost use Rattle.records.specs.Layout.{layoutOf, Sound};
 ghost use Rattle.entry_lookup.specs.LookUp.{Part};
@@ -23,7 +23,7 @@ pub const UNREACHABLE: u32 = 4294967295;
 
 // The better of what was found so far and a hop of this cost with this reach behind it.
 fn relax(best: u32, cost: u32, there: u32) -> u32
-    requires { ⌜ (cost ≤ 65535) × Small there ⌝ }
+    requires { ⌜ (cost ≤ costLimit) × Small there ⌝ }
     ensures { λ r. ⌜ reachOf r ≡ better (reachOf best) (via cost (reachOf there)) ⌝ }
 {
     if there == UNREACHABLE {
@@ -65,7 +65,7 @@ fn taken(
     from: usize,
     to: usize,
 ) -> u32
-    requires { ⌜ (h .cost ≤ 65535) × (inRange asked ≡ true) × (inRange (h .bandwidth) ≡ true) ⌝ }
+    requires { ⌜ (h .cost ≤ costLimit) × (inRange asked ≡ true) × (inRange (h .bandwidth) ≡ true) ⌝ }
     requires { ⌜ NextPlace (now addresses) (now reaches) from to ⌝ }
     ensures { λ r. ⌜ reachOf r ≡ better (reachOf best) (wayOn asked (slice from to (now (addresses .entry))) (slice from to (now (reaches .entry))) h) ⌝ }
 {
@@ -89,7 +89,7 @@ pub fn best_from(
     from: usize,
     to: usize,
 ) -> u32
-    requires { ⌜ Sound (layoutOf layout) × (layoutOf layout .mostCost ≤ 65535) × (profileVerdict (layoutOf layout) (now s) ≡ Pass) ⌝ }
+    requires { ⌜ Sound (layoutOf layout) × (layoutOf layout .mostCost ≤ costLimit) × (profileVerdict (layoutOf layout) (now s) ≡ Pass) ⌝ }
     requires { ⌜ (first ≤ last) × (last ≤ hopCount (now s)) × (inRange asked ≡ true) ⌝ }
     requires { ⌜ NextPlace (now addresses) (now reaches) from to ⌝ }
     ensures { λ r. ⌜ reachOf r ≡ bestFrom unreached (wayOn asked (slice from to (now (addresses .entry))) (slice from to (now (reaches .entry)))) (slice first last (hops (layoutOf layout) (now (s .entry)))) ⌝ }

@@ -8,7 +8,7 @@ use native.Mathlib.Omega.{arith}
 use lib.ListN.{getD}
 use Rattle.model.specs.declared.Round.{Round}
 use Rattle.model.specs.declared.Round.the-variants.{First}
-use Rattle.model.specs.Profile.{Layout, hopCount, hopAt, hops}
+use Rattle.model.specs.Profile.{Layout, hopCount, hopAt, hops, costLimit}
 use Rattle.model.specs.Subobject.{subobjects}
 use Rattle.model.specs.Exclusion.{someDesired}
 use Rattle.model.specs.Request.{Search}
@@ -21,15 +21,15 @@ use Rattle.levels.specs.Levels.{Covers, LaidOut}
 use Rattle.request.specs.declared.Query.{Query}
 use Rattle.request.specs.Query.{searchFor, inRound, roundFor, Ready}
 use Rattle.request.proofs.Requests.{ready-in}
-use Rattle.reaches.specs.Reaches.{unreachable, codeAt}
+use Rattle.reaches.specs.Reaches.{codeAt}
 use Rattle.bound.specs.Kept.{keptBy}
 use Rattle.vspt.specs.Tree.{LaidOutFor, TreeCodes}
 use Rattle.vspt.proofs.Sequences.{covers}
 use Rattle.rounds.specs.Settled.{SettledIs}
-use Rattle.rounds.proofs.Source.{source-number, small, none-admissible}
+use Rattle.rounds.proofs.Source.{source-number, none-admissible}
 
 module _
-    (L : Layout) (s exclude : List ℕ) (q : Query) (cheap : L .mostCost ≤ 65535) (ready : Ready L s exclude q) (addresses starts firsts lasts : List ℕ) (examined : ℕ)
+    (L : Layout) (s exclude : List ℕ) (q : Query) (cheap : L .mostCost ≤ costLimit) (ready : Ready L s exclude q) (addresses starts firsts lasts : List ℕ) (examined : ℕ)
     (covered : (S : Search) → Covers S L s (q .domains) (q .count) (q .source .0) (q .destination .0) → LaidOut S L s addresses starts firsts lasts examined)
   where
     laid-in : (x : Round) → LaidOut (searchFor L s exclude (inRound x q)) L s addresses starts firsts lasts examined
@@ -73,9 +73,6 @@ module _
 
       source-is : here ≡ codeAt (searchFor L s exclude p) 0 (p .source .0)
       source-is = source-number L s exclude p cheap (ready-for First p is) codes filled
-
-      pub source-small : (here ≡ unreachable → ⊥) → here ≤ 1048560
-      source-small = small L s exclude p cheap (ready-for First p is) here source-is
 
       none-in-first : isEmpty (admissible (searchFor L s exclude (inRound First q))) ≡ not (keptBy (q .limits) here)
       none-in-first =

@@ -12,9 +12,9 @@ use lib.Seq.{getD-take}
 use borrow.Author.Tests.{eqb-true, eqb-false, lt-ltb}
 use Rattle.model.specs.declared.Hop.{Hop}
 use Rattle.model.specs.Lists.{isEmpty, countFrom, each}
-use Rattle.model.specs.Profile.{Layout}
+use Rattle.model.specs.Profile.{Layout, costLimit}
 use Rattle.model.specs.Request.{Search}
-use Rattle.model.specs.Path.{legs, keepsBound, paths, admissible}
+use Rattle.model.specs.Path.{legs, keepsBound, paths, admissible, totalLimit}
 use Rattle.model.specs.Tree.{entriesAt}
 use Rattle.laws.proofs.Tests.{decide}
 use Rattle.laws.proofs.AcceptedPaths.{accepted-costs}
@@ -29,14 +29,14 @@ use Rattle.vspt.specs.Tree.{codesFrom, TreeCodes}
 use Rattle.vspt.proofs.Known.{code-is, cost-bound}
 use Rattle.vspt.proofs.Sequences.{stops-long}
 
-module _ (L : Layout) (s exclude : List ℕ) (q : Query) (cheap : L .mostCost ≤ 65535) (ready : Ready L s exclude q) where
+module _ (L : Layout) (s exclude : List ℕ) (q : Query) (cheap : L .mostCost ≤ costLimit) (ready : Ready L s exclude q) where
   abbrev S : Search
   S = searchFor L s exclude q
 
   few : length (S .sequence) ≤ 16
   few = omega (arith, stops-long q, ready .most)
 
-  costs : (h : Hop) → List·Memᴰ h (S .hops) → h .cost ≤ 65535
+  costs : (h : Hop) → List·Memᴰ h (S .hops) → h .cost ≤ costLimit
   costs h m = omega (arith, accepted-costs L s (ready .profile-right) h m)
 
   source-alone : nodesAt S 0 ≡ S .source ∷ []
@@ -70,7 +70,7 @@ module _ (L : Layout) (s exclude : List ℕ) (q : Query) (cheap : L .mostCost �
     pub cost-is : (here ≡ unreachable → ⊥) → here ≡ cost
     cost-is h = number ∙ ap (λ (b : Bool). codeIf b cost) (reached h)
 
-    pub small : (here ≡ unreachable → ⊥) → here ≤ 1048560
+    pub small : (here ≡ unreachable → ⊥) → here ≤ totalLimit
     small h = omega (arith, cost-is h, cost-bound S few costs 0 (S .source) (reached h))
 
     unreached : here ≡ unreachable → reach ≡ false

@@ -15,12 +15,12 @@ ghost use Prim.Native.Nat.{_≤_};
 ghost use lib.ListN.{length};
 ghost use Rattle.model.specs.declared.ListKind.the-variants.{Exclude};
 ghost use Rattle.model.specs.declared.Verdict.the-variants.{Pass};
+ghost use Rattle.model.specs.Profile.{costLimit};
 ghost use Rattle.model.specs.Exclusion.{someDesired};
 ghost use Rattle.model.specs.Floats.{inRange};
 ghost use Rattle.model.specs.Subobject.{formVerdict, subobjects};
 ghost use Rattle.records.specs.Layout.{layoutOf, Sound};
 ghost use Rattle.levels.specs.Levels.{Room};
-ghost use Rattle.reaches.specs.Reaches.{unreachable};
 ghost use Rattle.request.specs.Query.{Ready};
 ghost use Rattle.bound.specs.Kept.{keptBy};
 ghost use Rattle.rounds.specs.Settled.{SettledIs};
@@ -33,7 +33,7 @@ pub struct Settled {
 
 // A second round is needed: the first has no admissible path, by the source's number, and some exclusion has X set.
 fn needs_second(exclude: &[u8], limits: Limits, here: u32) -> bool
-    requires { ⌜ (formVerdict Exclude (now exclude) ≡ Pass) × ((here ≡ unreachable → ⊥) → here ≤ 1048560) × (limits .bounded ≡ true → inRange (limits .bound) ≡ true) ⌝ }
+    requires { ⌜ (formVerdict Exclude (now exclude) ≡ Pass) × (limits .bounded ≡ true → inRange (limits .bound) ≡ true) ⌝ }
     ensures { λ r. ⌜ r ≡ someDesired (subobjects (now (exclude .entry))) && not (keptBy limits here) ⌝ }
 {
     if admissible(limits, here) {
@@ -55,7 +55,7 @@ pub fn settle(
     firsts: &mut [usize; 16],
     lasts: &mut [usize; 16],
 ) -> Settled
-    requires { ⌜ Sound (layoutOf layout) × (layoutOf layout .mostCost ≤ 65535) × Ready (layoutOf layout) (now s) (now exclude) q ⌝ }
+    requires { ⌜ Sound (layoutOf layout) × (layoutOf layout .mostCost ≤ costLimit) × Ready (layoutOf layout) (now s) (now exclude) q ⌝ }
     requires { ⌜ Room (now addresses) (now starts) (now firsts) (now lasts) × (length (now reaches) ≡ 242) ⌝ }
     ensures { λ r. ⌜ SettledIs (layoutOf layout) (now (s .entry)) (now (exclude .entry)) q (now (addresses .exit)) (now (reaches .exit)) (now (starts .exit)) (now (firsts .exit)) (now (lasts .exit)) r ⌝ }
 {

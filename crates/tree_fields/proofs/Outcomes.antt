@@ -3,7 +3,7 @@ use Prim.Native.Nat.{ℕ, _+_, _≤_, _<_}
 use native.Mathlib.Omega.{arith}
 use mathlib.Core.Path.{_≡_, refl, sym, ap, ap₂, subst, _∙_}
 use mathlib.Core.Bool.{Bool}
-use mathlib.Core.List.{List, [], List·Memᴰ}
+use mathlib.Core.List.{List, List·Memᴰ}
 use lib.ListN.{length, getD}
 use borrow.Author.Tests.{lt-ltb, le-ltb}
 use Rattle.model.specs.declared.Hop.{Hop}
@@ -13,11 +13,11 @@ use Rattle.model.specs.declared.Round.the-variants.{First, Second}
 use Rattle.model.specs.declared.TreeEntry.{TreeEntry}
 use Rattle.model.specs.declared.TreeAnswer.the-variants.{Built, Refused}
 use Rattle.model.specs.Verdict.{refuseIf}
-use Rattle.model.specs.Profile.{version1}
+use Rattle.model.specs.Profile.{version1, costLimit}
 use Rattle.model.specs.Sequence.{Stop, Reading}
 use Rattle.model.specs.Request.{Request, Search, Accepted, sequenceOf}
 use Rattle.model.specs.Rounds.{roundOf, searchOf, overRounds}
-use Rattle.model.specs.Sequence.{refused, good}
+use Rattle.model.specs.Sequence.{refused}
 use Rattle.model.specs.Answers.{done4, refused4}
 use Rattle.model.specs.Calls.{Outcome, nothing, answerTree, treeInto, buildTree}
 use Rattle.model.specs.Tree.{tree, tally}
@@ -77,7 +77,7 @@ module _
     few : length (S .sequence) ≤ 16
     few = omega (arith, stops-long p, ready-settled .most)
 
-    cheap : (h : Hop) → List·Memᴰ h (S .hops) → h .cost ≤ 65535
+    cheap : (h : Hop) → List·Memᴰ h (S .hops) → h .cost ≤ costLimit
     cheap h m = accepted-costs version1 s (ready .profile-right) h m
 
     -- the start of the place behind the last domain is the number of entries

@@ -4,16 +4,15 @@ use Prim.Native.Nat.{ℕ, zero, suc, _+_, _-_, _≤_, _<_}
 use native.Mathlib.Nat.{zero-add}
 use native.Mathlib.Omega.{arith}
 use mathlib.Core.Path.{_≡_, refl, sym, ap, ap₂, subst, _∙_}
-use mathlib.Core.Bool.{Bool, true}
+use mathlib.Core.Bool.{Bool}
 use mathlib.Core.List.{List, [], _∷_, _++_, map, List·Memᴰ, List·Memᴰ·head, List·Memᴰ·tail}
 use lib.ListN.{length, getD, take, replicate, length-append, length-map, length-take}
-use lib.Dec.{ltb}
 use lib.Seq.{take-take, take-at}
 use borrow.Author.Tests.{lt-ltb}
 use Rattle.model.specs.declared.Hop.{Hop}
 use Rattle.model.specs.declared.TreeEntry.{TreeEntry}
 use Rattle.model.specs.Lists.{countFrom, each}
-use Rattle.model.specs.Profile.{Layout}
+use Rattle.model.specs.Profile.{Layout, costLimit}
 use Rattle.model.specs.Request.{Search}
 use Rattle.model.specs.Tree.{entriesAt, entry, tree}
 use Rattle.laws.proofs.Lists.{map-append, countFrom-mem}
@@ -25,7 +24,7 @@ use Rattle.reaches.specs.Reaches.{codeAt}
 use Rattle.vspt.specs.Tree.{codesFrom, WorkedOut}
 use Rattle.vspt.proofs.Filled.{level-long, codes-long, end-nodes}
 use Rattle.vspt.proofs.Known.{reach-back}
-use Rattle.tree_fields.specs.Fields.{markIf, level, address, mark, cost, markOf, costOf, levelsAt, levelsOf, Places}
+use Rattle.tree_fields.specs.Fields.{markIf, level, address, mark, cost, markOf, costOf, levelsAt, levelsOf}
 use Rattle.tree_fields.specs.Solved.{Held}
 use Rattle.tree_fields.proofs.Fields.{map-same}
 
@@ -84,7 +83,7 @@ module _ (S : Search) where
   pub tree-length : length (tree S) ≡ startOf S k
   tree-length = sym (length-map (tree S) address) ∙ ap length tree-addresses
 
-  module _ (few : k ≤ 16) (cheap : (h : Hop) → List·Memᴰ h (S .hops) → h .cost ≤ 65535) where
+  module _ (few : k ≤ 16) (cheap : (h : Hop) → List·Memᴰ h (S .hops) → h .cost ≤ costLimit) where
     -- a field that each entry has by its number
     coded : (f : TreeEntry → ℕ) (g : ℕ → ℕ) → ((i a : ℕ) → f (entry S i a) ≡ g (codeAt S i a)) → map f (tree S) ≡ map g (codesFrom S 0 k)
     unfolding codesFrom

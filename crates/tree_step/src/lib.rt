@@ -16,7 +16,7 @@ ghost use Rattle.model.specs.declared.ListKind.the-variants.{Exclude};
 ghost use Rattle.model.specs.declared.Verdict.the-variants.{Pass};
 ghost use Rattle.model.specs.Floats.{inRange};
 ghost use Rattle.model.specs.Path.{keepsPin};
-ghost use Rattle.model.specs.Profile.{profileVerdict};
+ghost use Rattle.model.specs.Profile.{profileVerdict, costLimit};
 ghost use Rattle.model.specs.Subobject.{formVerdict};
 ghost use Rattle.model.specs.WrittenList.{pinIf};
 ghost use Rattle.records.specs.Layout.{layoutOf, Sound};
@@ -76,7 +76,7 @@ fn entry_reach(
     addresses: &[u32],
     reaches: &[u32],
 ) -> u32
-    requires { ⌜ Sound (layoutOf layout) × (layoutOf layout .mostCost ≤ 65535) × (profileVerdict (layoutOf layout) (now s) ≡ Pass) ⌝ }
+    requires { ⌜ Sound (layoutOf layout) × (layoutOf layout .mostCost ≤ costLimit) × (profileVerdict (layoutOf layout) (now s) ≡ Pass) ⌝ }
     requires { ⌜ (formVerdict Exclude (now exclude) ≡ Pass) × (inRange asked ≡ true) ⌝ }
     requires { ⌜ PairRange (layoutOf layout) (now s) (leg .from .0) (leg .to .0) (leg .hops .first) (leg .hops .last) ⌝ }
     requires { ⌜ NextPlace (now addresses) (now reaches) (leg .next) (leg .end) ⌝ }
@@ -112,7 +112,7 @@ pub fn fill_level(
     addresses: &[u32],
     reaches: &mut [u32],
 )
-    requires { ⌜ Sound (layoutOf layout) × (layoutOf layout .mostCost ≤ 65535) × (profileVerdict (layoutOf layout) (now s) ≡ Pass) ⌝ }
+    requires { ⌜ Sound (layoutOf layout) × (layoutOf layout .mostCost ≤ costLimit) × (profileVerdict (layoutOf layout) (now s) ≡ Pass) ⌝ }
     requires { ⌜ (formVerdict Exclude (now exclude) ≡ Pass) × (inRange asked ≡ true) ⌝ }
     requires { ⌜ PairRange (layoutOf layout) (now s) (leg .from .0) (leg .to .0) (leg .hops .first) (leg .hops .last) ⌝ }
     requires { ⌜ (leg .start ≤ leg .next) × NextPlace (now addresses) (now reaches) (leg .next) (leg .end) ⌝ }

@@ -8,7 +8,7 @@ use native.Mathlib.Omega.{arith}
 use lib.ListN.{length, getD, set, length-map}
 use lib.Seq.{slice, paste, length-paste}
 use Rattle.model.specs.declared.Hop.{Hop}
-use Rattle.model.specs.Profile.{Layout, hops}
+use Rattle.model.specs.Profile.{Layout, hops, costLimit}
 use Rattle.model.specs.Subobject.{subobjects}
 use Rattle.model.specs.Exclusion.{inForce, excludedNode}
 use Rattle.model.specs.Request.{Search}
@@ -29,7 +29,7 @@ use Rattle.vspt.proofs.LevelIs.{level-codes-is}
 use Rattle.vspt.proofs.Sequences.{stops-long}
 
 module _
-    (L : Layout) (s exclude : List ℕ) (q : Query) (most : L .mostCost ≤ 65535) (ready : Ready L s exclude q)
+    (L : Layout) (s exclude : List ℕ) (q : Query) (most : L .mostCost ≤ costLimit) (ready : Ready L s exclude q)
     (addresses starts firsts lasts : List ℕ) (out : LaidOutFor L s exclude q addresses starts firsts lasts)
   where
     abbrev S : Search
@@ -38,7 +38,7 @@ module _
     few : length (S .sequence) ≤ 16
     few = omega (arith, stops-long q, ready .most)
 
-    cheap : (h : Hop) → List·Memᴰ h (S .hops) → h .cost ≤ 65535
+    cheap : (h : Hop) → List·Memᴰ h (S .hops) → h .cost ≤ costLimit
     cheap h m = let k = accepted-costs L s (ready .profile-right) h m in omega arith
 
     -- a place starts no later than the end

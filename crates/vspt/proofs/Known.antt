@@ -1,10 +1,10 @@
 -- What stands beside an address among a place's addresses and their numbers is how the address reaches the destination: the numbers are small, they say the
 -- reach back, and an address that isn't there reaches nothing. From the laws of the tree.
-use mathlib.Core.Path.{_≡_, refl, sym, ap, subst, _∙_}
+use mathlib.Core.Path.{_≡_, refl, sym, ap, _∙_}
 use mathlib.Core.Logic.{⊎-elim}
 use mathlib.Core.Bool.{Bool, true, false, not, _&&_}
-use mathlib.Core.List.{List, [], _∷_, map, List·Memᴰ, List·Memᴰ·not-nil, List·Memᴰ·head, List·Memᴰ·cases-cons, List·Memᴰ·eq-of-singleton}
-use Prim.Native.Nat.{ℕ, suc, _+_, _*_, _≤_, _<_}
+use mathlib.Core.List.{List, [], _∷_, map, List·Memᴰ, List·Memᴰ·not-nil, List·Memᴰ·head, List·Memᴰ·cases-cons}
+use Prim.Native.Nat.{ℕ, suc, _+_, _≤_, _<_}
 use native.Mathlib.Nat.{mul-le-mul-right}
 use native.Mathlib.Omega.{arith}
 use lib.Dec.{eqb, ltb}
@@ -12,17 +12,17 @@ use lib.ListN.{length, drop, length-drop}
 use borrow.Author.Tests.{eqb-true, eqb-false, eq-eqb, ne-eqb, ltb-false, le-ltb}
 use Rattle.model.specs.declared.Hop.{Hop}
 use Rattle.model.specs.declared.TreeEntry.{TreeEntry}
-use Rattle.model.specs.Profile.{between}
+use Rattle.model.specs.Profile.{between, costLimit}
 use Rattle.model.specs.Exclusion.{excludedNode}
 use Rattle.model.specs.Request.{Search}
-use Rattle.model.specs.Path.{legs, legAt, placeAllows, allowed, Route}
-use Rattle.model.specs.Tree.{entriesAt, suffixesAt, entry}
+use Rattle.model.specs.Path.{legs, legAt, placeAllows, allowed, totalLimit}
+use Rattle.model.specs.Tree.{entriesAt, suffixesAt}
 use Rattle.laws.proofs.Tests.{decide}
 use Rattle.laws.proofs.EntryNodes.{mem-entryNodes}
 use Rattle.laws.proofs.PathsAreThePaths.{length-legs}
 use Rattle.laws.proofs.SuffixTotals.{suffix-total-bound}
 use Rattle.laws.proofs.Reach.{Reach, unreached, arrived, leastFrom, reachIf, leastFrom-nil, leastFrom-some, leastFrom-unreached}
-use Rattle.laws.proofs.TreeLeast.{entry-is, entryOf, place-end}
+use Rattle.laws.proofs.TreeLeast.{entry-is, place-end}
 use Rattle.levels.specs.Levels.{nodesIf, nodesAt}
 use Rattle.reaches.specs.Reaches.{unreachable, codeIf, codeOf, reachOf, codeAt, Small, besideIf, beside}
 use Rattle.reaches.proofs.Codes.{reach-none, reach-some}
@@ -57,7 +57,7 @@ beside-alone a n v h = ap (λ (b : Bool). besideIf b n unreachable) (ne-eqb a v 
 
 -- ---- the number of an address at a place
 
-module _ (S : Search) (few : length (S .sequence) ≤ 16) (cheap : (h : Hop) → List·Memᴰ h (S .hops) → h .cost ≤ 65535) where
+module _ (S : Search) (few : length (S .sequence) ≤ 16) (cheap : (h : Hop) → List·Memᴰ h (S .hops) → h .cost ≤ costLimit) where
   abbrev reachAt : ℕ → ℕ → Reach
   reachAt i a = leastFrom (suffixesAt S i a)
 
@@ -66,18 +66,18 @@ module _ (S : Search) (few : length (S .sequence) ≤ 16) (cheap : (h : Hop) →
   code-is i a = ap (λ (e : TreeEntry). codeIf (e .reachable) (e .cost)) (entry-is S i a)
 
   -- a least cost is that of at most 16 hops
-  pub cost-bound : (i a : ℕ) → (reachAt i a) .reachable ≡ true → (reachAt i a) .cost ≤ 1048560
+  pub cost-bound : (i a : ℕ) → (reachAt i a) .reachable ≡ true → (reachAt i a) .cost ≤ totalLimit
   cost-bound i a t =
       let r = leastFrom-some (suffixesAt S i a) t in
       let e = r .2 in
-      let b = suffix-total-bound S 65535 cheap (drop i (legs (S .sequence))) i a (r .0) (r .1) in
+      let b = suffix-total-bound S costLimit cheap (drop i (legs (S .sequence))) i a (r .0) (r .1) in
       let n : length (drop i (legs (S .sequence))) ≤ 16 = omega (arith, length-drop i (legs (S .sequence)), length-legs (S .sequence)) in
-      omega (arith, mul-le-mul-right 65535 n)
+      omega (arith, mul-le-mul-right costLimit n)
 
   pub code-small : (i a : ℕ) → Small (codeAt S i a)
   code-small i a h = go ((reachAt i a) .reachable) refl
     where
-      go : (b : Bool) → (reachAt i a) .reachable ≡ b → codeAt S i a ≤ 4294901759
+      go : (b : Bool) → (reachAt i a) .reachable ≡ b → costLimit + codeAt S i a < unreachable
       go true t =
           let e = code-is i a ∙ ap (λ (b : Bool). codeIf b ((reachAt i a) .cost)) t in
           omega (arith, cost-bound i a t)

@@ -1,10 +1,8 @@
 -- One domain's step gives the numbers of its entries by the definition of the tree: the leg's tests are those of `allowed`, and each hop record's way on is the
 -- way through its head. From the law of the tree's step, record by record.
-use mathlib.Core.Path.{_≡_, refl, sym, ap, ap₂, subst, _∙_}
-use mathlib.Core.Logic.{⊎-elim}
+use mathlib.Core.Path.{_≡_, refl, sym, ap, ap₂, _∙_}
 use mathlib.Core.Bool.{Bool, true, false, not, _&&_}
 use mathlib.Core.List.{List, map, List·Memᴰ}
-use mathlib.Core.Option.{Option}
 use Prim.Native.Nat.{ℕ, suc, _≤_, _<_}
 use lib.Dec.{eqb}
 use lib.ListN.{length}
@@ -12,20 +10,18 @@ use lib.Seq.{slice}
 use borrow.Author.Tests.{lt-ltb}
 use Rattle.model.specs.declared.Hop.{Hop}
 use Rattle.model.specs.declared.Round.{Round}
-use Rattle.model.specs.Profile.{Layout, hops, between}
+use Rattle.model.specs.Profile.{Layout, hops, between, costLimit}
 use Rattle.model.specs.Subobject.{subobjects}
-use Rattle.model.specs.Sequence.{domainOf}
-use Rattle.model.specs.Exclusion.{inForce, excludedDomain, excludedNode}
+use Rattle.model.specs.Exclusion.{inForce, excludedNode}
 use Rattle.model.specs.Floats.{atLeast}
 use Rattle.model.specs.Request.{Search}
-use Rattle.model.specs.Path.{legAt, stopAt, keepsPin, placeAllows, allowed, leaves, hopsFrom}
+use Rattle.model.specs.Path.{legAt, keepsPin, placeAllows, allowed, leaves, hopsFrom}
 use Rattle.model.specs.Tree.{suffixesAt}
 use Rattle.model.specs.WrittenList.{pinIf}
-use Rattle.laws.proofs.Tests.{decide}
-use Rattle.laws.proofs.Reach.{Reach, unreached, leastFrom, reachIf, via, bestFrom, bestFrom-agree, bestFrom-keep}
+use Rattle.laws.proofs.Reach.{unreached, leastFrom, reachIf, via, bestFrom, bestFrom-agree, bestFrom-keep}
 use Rattle.laws.proofs.TreeLeast.{place-step}
 use Rattle.hop_range.specs.Ranges.{leavesNode}
-use Rattle.levels.specs.Levels.{nodesAt, startOf}
+use Rattle.levels.specs.Levels.{nodesAt}
 use Rattle.tree_step.specs.declared.Leg.{Leg}
 use Rattle.vspt.specs.Leg.{LegIs}
 use Rattle.reaches.specs.Reaches.{codeOf, reachOf, codeAt, beside, wayOn}
@@ -33,7 +29,7 @@ use Rattle.tree_step.specs.Step.{allowedBy, entryReach, entryCode, levelCodes}
 use Rattle.vspt.proofs.Known.{code-is, head-known}
 
 module _
-    (S : Search) (x : Round) (L : Layout) (s exclude : List ℕ) (few : length (S .sequence) ≤ 16) (cheap : (h : Hop) → List·Memᴰ h (S .hops) → h .cost ≤ 65535)
+    (S : Search) (x : Round) (L : Layout) (s exclude : List ℕ) (few : length (S .sequence) ≤ 16) (cheap : (h : Hop) → List·Memᴰ h (S .hops) → h .cost ≤ costLimit)
     (hops-are : S .hops ≡ hops L s) (exclusions-are : S .exclusions ≡ inForce x (subobjects exclude)) (i : ℕ) (k : i < length (S .sequence)) (leg : Leg) (is : LegIs S x i leg)
   where
     tests : (a : ℕ) → allowedBy (leg .round) exclude (leg .excluded) (leg .pinned) (leg .pin .0) a ≡ allowed S i a

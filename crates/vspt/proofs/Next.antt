@@ -7,7 +7,7 @@ use native.Mathlib.Omega.{arith}
 use lib.ListN.{length, length-map, length-take}
 use lib.Seq.{slice}
 use Rattle.model.specs.declared.Hop.{Hop}
-use Rattle.model.specs.Profile.{Layout}
+use Rattle.model.specs.Profile.{Layout, costLimit}
 use Rattle.model.specs.Request.{Search}
 use Rattle.laws.proofs.Lists.{Sorted}
 use Rattle.entry_lookup.specs.LookUp.{Part}
@@ -47,7 +47,7 @@ module _
         (subst (Sorted _<_) (sym nodes) (nodes-ascending S i))
 
     pub next-place-of
-        : length (S .sequence) ≤ 16 → ((x : Hop) → List·Memᴰ x (S .hops) → x .cost ≤ 65535)
+        : length (S .sequence) ≤ 16 → ((x : Hop) → List·Memᴰ x (S .hops) → x .cost ≤ costLimit)
         → (codes : List ℕ) → startOf S (suc i) ≤ length codes → slice (startOf S i) (startOf S (suc i)) codes ≡ map (codeAt S i) (nodesAt S i)
         → NextPlace addresses codes (startOf S i) (startOf S (suc i))
     next-place-of few cheap codes in-codes known =

@@ -18,6 +18,7 @@ ghost use Prim.Native.Nat.{ℕ, suc, _+_, _<_, _≤_};
 ghost use lib.ListN.{length, getD};
 ghost use Rattle.model.specs.declared.ListKind.the-variants.{Exclude};
 ghost use Rattle.model.specs.declared.Verdict.the-variants.{Pass};
+ghost use Rattle.model.specs.Profile.{costLimit};
 ghost use Rattle.model.specs.Exclusion.{inForce, excludedNode};
 ghost use Rattle.model.specs.Subobject.{formVerdict, subobjects};
 ghost use Rattle.records.specs.Layout.{layoutOf, Sound};
@@ -102,7 +103,7 @@ fn fill_place(
     lasts: &[usize; 16],
     reaches: &mut [u32],
 )
-    requires { ⌜ Sound (layoutOf layout) × (layoutOf layout .mostCost ≤ 65535) × Ready (layoutOf layout) (now s) (now exclude) q × (i < q .count) ⌝ }
+    requires { ⌜ Sound (layoutOf layout) × (layoutOf layout .mostCost ≤ costLimit) × Ready (layoutOf layout) (now s) (now exclude) q × (i < q .count) ⌝ }
     requires { ⌜ LaidOutFor (layoutOf layout) (now s) (now exclude) q (now addresses) (now starts) (now firsts) (now lasts) × (length (now reaches) ≡ 242) ⌝ }
     requires { ⌜ Holds (searchFor (layoutOf layout) (now s) (now exclude) q) (suc i) (now reaches) ⌝ }
     ensures { λ _. ⌜ now (reaches .exit) ≡ filledAt (searchFor (layoutOf layout) (now (s .entry)) (now (exclude .entry)) q) i (now (reaches .entry)) ⌝ }
@@ -126,7 +127,7 @@ fn fill_from(
     lasts: &[usize; 16],
     reaches: &mut [u32],
 )
-    requires { ⌜ Sound (layoutOf layout) × (layoutOf layout .mostCost ≤ 65535) × Ready (layoutOf layout) (now s) (now exclude) q × (i + left ≡ q .count) ⌝ }
+    requires { ⌜ Sound (layoutOf layout) × (layoutOf layout .mostCost ≤ costLimit) × Ready (layoutOf layout) (now s) (now exclude) q × (i + left ≡ q .count) ⌝ }
     requires { ⌜ LaidOutFor (layoutOf layout) (now s) (now exclude) q (now addresses) (now starts) (now firsts) (now lasts) × (length (now reaches) ≡ 242) ⌝ }
     ensures { λ _. ⌜ now (reaches .exit) ≡ filledFrom (searchFor (layoutOf layout) (now (s .entry)) (now (exclude .entry)) q) i (suc left) (now (reaches .entry)) ⌝ }
 {
@@ -177,7 +178,7 @@ pub fn fill_tree(
     lasts: &[usize; 16],
     reaches: &mut [u32; 242],
 )
-    requires { ⌜ Sound (layoutOf layout) × (layoutOf layout .mostCost ≤ 65535) × Ready (layoutOf layout) (now s) (now exclude) q ⌝ }
+    requires { ⌜ Sound (layoutOf layout) × (layoutOf layout .mostCost ≤ costLimit) × Ready (layoutOf layout) (now s) (now exclude) q ⌝ }
     requires { ⌜ LaidOutFor (layoutOf layout) (now s) (now exclude) q (now addresses) (now starts) (now firsts) (now lasts) × (length (now reaches) ≡ 242) ⌝ }
     ensures { λ _. ⌜ TreeCodes (searchFor (layoutOf layout) (now (s .entry)) (now (exclude .entry)) q) (now (reaches .exit)) × (length (now (reaches .exit)) ≡ 242) ⌝ }
 {

@@ -1,8 +1,7 @@
 -- `admissible` meets its contract, test by test.
 -- Assumes nothing.
-use mathlib.Core.Path.{_≡_, refl, sym, ap, _∙_}
-use mathlib.Core.Bool.{Bool, true, false, not, _&&_}
-use native.Mathlib.Omega.{arith}
+use mathlib.Core.Path.{sym, ap, _∙_}
+use mathlib.Core.Bool.{Bool, not, _&&_}
 use borrow.Author.Tests.{eq-eqb, ne-eqb}
 use Rattle.model.specs.Path.{keepsBound}
 use Rattle.reaches.specs.Reaches.{unreachable}
@@ -18,9 +17,7 @@ returns c =
     sym (ap (λ (b : Bool). not b && keepsBound (a .limits) (a .here)) (eq-eqb (a .here) unreachable (c .if1 .taken)))
 
 keeps-bound-requires : tie.Need-keeps-bound-requires
-keeps-bound-requires c κs =
-    let start = c .before in
-    (start .pre .0 (c .if1 .left), start .pre .1)
+keeps-bound-requires c κs = c .before .pre
 
 returns-2 : tie.Need-returns-2
 returns-2 c =

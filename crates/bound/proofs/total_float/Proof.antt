@@ -1,20 +1,21 @@
--- `total_float` meets its contract: a total below 2^24 is a float exactly.
+-- `total_float` meets its contract: the library's cast gives the nearest float, which is in range.
 -- Assumes nothing.
-use mathlib.Core.Path.{refl}
-use native.Mathlib.Omega.{arith}
-use Rattle.model.specs.Floats.{floatOf}
-use Rattle.laws.proofs.BoundExact.{total-cast-defined, float-of-total}
+use mathlib.Core.Path.{ap, _∙_}
+use Rattle.model.specs.Floats.{floatOf, inRange}
+use Rattle.laws.proofs.NearestFloat.{float-nearest}
+use borrow.Author.Needs.{needs}
 use Rattle.bound.proofs.total_float.Statement.{statement}
 use Rattle.bound.proofs.total_float.Tie as tie
-use Rattle.bound.proofs.total_float.Reads as reads
-use Rattle.bound.proofs.total_float.Lts as lts
 
-int-to-float-result : tie.Need-int-to-float-result
-int-to-float-result c = total-cast-defined (c .before .args .total) (omega arith)
+nearest-u32-to-f32-requires : tie.Need-nearest-u32-to-f32-requires
+nearest-u32-to-f32-requires c κs = search needs
 
 returns : tie.Need-returns
 unfolding floatOf
-returns c = (refl, (float-of-total (c .before .args .total) (omega arith)) .1)
+returns c =
+    let total = c .before .args .total in
+    let is = c .nearest-u32-to-f32 .ensures in
+    (is, ap inRange is ∙ float-nearest total (search needs) .range)
 
 pub total-float-spec : {M : Type 1} → statement M
-total-float-spec = tie.close (tie.spec int-to-float-result returns)
+total-float-spec = tie.close (tie.spec nearest-u32-to-f32-requires returns)

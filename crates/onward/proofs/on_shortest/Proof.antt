@@ -1,18 +1,13 @@
 -- `on_shortest` meets its contract: nothing is left behind the head, or the two sums of costs are compared.
 -- Assumes nothing.
-use mathlib.Core.Path.{_≡_, sym, ap}
-use Prim.Native.Nat.{ℕ, _+_, _≤_, _<_, _^_}
+use mathlib.Core.Path.{sym, ap}
 use native.Mathlib.Omega.{arith}
 use borrow.Author.Needs.{needs}
 use Rattle.laws.proofs.Split.{onShortest}
-use Rattle.reaches.specs.Reaches.{unreachable, reachOf, Small}
-use Rattle.reaches.proofs.Codes.{reach-none, reach-some}
+use Rattle.reaches.specs.Reaches.{reachOf}
+use Rattle.reaches.proofs.Codes.{reach-none, reach-some, cost-fits}
 use Rattle.onward.proofs.on_shortest.Statement.{statement}
 use Rattle.onward.proofs.on_shortest.Tie as tie
-
--- the sum is a cost
-cost-fits : (cost there : ℕ) → cost ≤ 65535 → Small there → (there ≡ unreachable → ⊥) → there < 2 ^ 32 → cost + there < unreachable
-cost-fits cost there h small some fits = let k = small (omega arith) in omega arith
 
 returns : tie.Need-returns
 returns c =

@@ -1,7 +1,5 @@
 -- `answered` meets its contract, by whether a path was found.
 -- Assumes nothing.
-use mathlib.Core.Path.{_≡_, refl, sym, ap, _∙_}
-use native.Mathlib.Omega.{arith}
 use native.Mathlib.Numerals.{add-one}
 use borrow.Author.Tests.{not-true, not-false}
 use Rattle.model.specs.Path.{shortestPaths}
@@ -26,7 +24,7 @@ returns c =
     none-by (a .sought .round) (a .again) _ (greaterThan given (shortestPaths S)) room (a .sought .path) (c .none-answer .ensures) (is .missing (not-true _ (c .before .if1 .taken))) (is .cells)
 
 total-float-requires : tie.Need-total-float-requires
-total-float-requires c κs = c .before .before .before .pre .1 (not-false _ (c .if1 .left))
+total-float-requires c κs = search needs
 
 add-t11 : tie.Need-add-t11
 add-t11 c = search needs
@@ -37,7 +35,7 @@ returns-2 c =
     let a = start .args in
     let float = c .total-float .ensures in
     λ S given room is fits.
-    found-by (noneNumber (a .again)) S given (a .count) _ room (a .sought) _ (is .there (not-false _ (c .before .if1 .left))) (is .cells) (start .pre .0) fits (add-one (a .count)) (float .0) (float .1)
+    found-by (noneNumber (a .again)) S given (a .count) _ room (a .sought) _ (is .there (not-false _ (c .before .if1 .left))) (is .cells) (start .pre) fits (add-one (a .count)) (float .0) (float .1)
 
 pub answered-spec : {M : Type 1} → statement M
 answered-spec =

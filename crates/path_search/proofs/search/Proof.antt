@@ -12,7 +12,7 @@ use Rattle.request.specs.declared.Query.{Query}
 use Rattle.request.specs.Query.{searchFor, Ready}
 use Rattle.reaches.specs.Reaches.{codeAt}
 use Rattle.onward.specs.Worked.{Worked}
-use Rattle.rounds.proofs.Source.{source-number, small}
+use Rattle.rounds.proofs.Source.{source-number}
 use Rattle.path_search.proofs.Searching.{worked-for, stands, some-way, sought-none, sought, ready-settled, fits-settled, sought-for}
 use Rattle.path_search.proofs.search.Statement.{statement}
 use Rattle.path_search.proofs.search.Tie as tie
@@ -56,11 +56,7 @@ here-is c =
     source-number (layoutOf (a .layout)) (a .s .now) (a .exclude .now) (settled c) (start .pre .0 .1) (ready c) _ (c .settle .ensures .worked .codes-are)
 
 admissible-requires : tie.Need-admissible-requires
-admissible-requires c κs =
-    let start = c .before .before .before .before .before .before .before .before .before .before .before in
-    let a = start .args in
-    let at = c .before .before in
-    (small (layoutOf (a .layout)) (a .s .now) (a .exclude .now) (settled at) (start .pre .0 .1) (ready at) _ (here-is at), ready at .bound-right)
+admissible-requires c κs = ready (c .before .before) .bound-right
 
 returns : tie.Need-returns
 returns c =

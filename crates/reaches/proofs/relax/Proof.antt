@@ -1,17 +1,10 @@
 -- `reaches::relax` meets its contract: each return is one case of the running minimum (`Codes`).
 -- Assumes nothing.
-use mathlib.Core.Path.{_≡_}
-use Prim.Native.Nat.{ℕ, _+_, _≤_, _<_, _^_}
 use native.Mathlib.Omega.{arith}
 use borrow.Author.Needs.{needs}
-use Rattle.reaches.specs.Reaches.{unreachable, Small}
-use Rattle.reaches.proofs.Codes.{relax-none, relax-less, relax-more}
+use Rattle.reaches.proofs.Codes.{cost-fits, relax-none, relax-less, relax-more}
 use Rattle.reaches.proofs.relax.Statement.{statement}
 use Rattle.reaches.proofs.relax.Tie as tie
-
--- the sum is a cost
-cost-fits : (cost there : ℕ) → cost ≤ 65535 → Small there → (there ≡ unreachable → ⊥) → there < 2 ^ 32 → cost + there < unreachable
-cost-fits cost there h small some fits = let k = small (omega arith) in omega arith
 
 returns : tie.Need-returns
 returns c = let a = c .before .args in relax-none (a .best) (a .cost) (a .there) (c .if1 .taken)

@@ -9,7 +9,7 @@ use Rattle.model.specs.Rounds.{roundIf}
 use Rattle.laws.proofs.BigEndian.{number-bound}
 use Rattle.records.specs.Layout.{layoutOf}
 use Rattle.vspt.proofs.Sequences.{several}
-use Rattle.rounds.proofs.Settling.{ready-for, laid-for, settled, examined-most, source-small, round-is}
+use Rattle.rounds.proofs.Settling.{ready-for, laid-for, settled, examined-most, round-is}
 use Rattle.rounds.proofs.settle.Statement.{statement}
 use Rattle.rounds.proofs.settle.Tie as tie
 
@@ -39,15 +39,8 @@ element-copy-out-needs-second c = search needs
 
 needs-second-requires : tie.Need-needs-second-requires
 needs-second-requires c κs =
-    let start = c .before .before .before .before .before .before .before .before .before .before .before .before .before .before .before .before .before .before .before in
-    let a = start .args in
-    let pre = start .pre in
-    let lay = c .before .before .before .before .before .before .before .before .lay-out in
-    let p = c .before .before .before .before .before .before .before .in-round in (
-      pre .0 .2 .exclude-right,
-      source-small (layoutOf (a .layout)) (a .s .now) (a .exclude .now) (a .q) (pre .0 .1) (pre .0 .2) _ _ _ _ _ (lay .ensures) (p .result) (p .ensures) _ (c .before .fill-tree .ensures .0),
-      pre .0 .2 .bound-right,
-    )
+    let ready = c .before .before .before .before .before .before .before .before .before .before .before .before .before .before .before .before .before .before .before .pre .0 .2 in
+    (ready .exclude-right, ready .bound-right)
 
 returns : tie.Need-returns
 returns c =

@@ -3,7 +3,7 @@ use mathlib.Core.Path.{refl, sym, subst}
 use Prim.Native.Nat.{_≤_}
 use native.Mathlib.Omega.{arith}
 use borrow.Author.Needs.{needs}
-use Rattle.model.specs.Profile.{Layout, version1}
+use Rattle.model.specs.Profile.{Layout, version1, costLimit}
 use Rattle.records.specs.Layout.{Sound}
 use Rattle.request.specs.Query.{Ready}
 use Rattle.rounds.specs.Settled.{SettledIs}
@@ -20,7 +20,7 @@ settle-requires : tie.Need-settle-requires
 settle-requires c κs =
     let start = c .before .before .before .before .before .before .before .before in
     let a = start .args in (
-      subst (λ (L : Layout). Sound L × (L .mostCost ≤ 65535) × Ready L (a .profile .now) (a .exclude .now) (a .q)) (sym (c .before .before .before .before .before .first-version .ensures))
+      subst (λ (L : Layout). Sound L × (L .mostCost ≤ costLimit) × Ready L (a .profile .now) (a .exclude .now) (a .q)) (sym (c .before .before .before .before .before .first-version .ensures))
           (record { fields = omega arith; cost = omega arith; small = omega arith }, omega arith, start .pre .0),
       (record { for-addresses = start .pre .1 .0; for-starts = start .pre .1 .2; for-firsts = refl; for-lasts = refl }, start .pre .1 .1),
     )

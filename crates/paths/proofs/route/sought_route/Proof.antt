@@ -1,10 +1,10 @@
 -- `route::sought_route` meets its contract: the search is that of the first version's layout.
 -- Assumes nothing.
-use mathlib.Core.Path.{_≡_, refl, sym, ap, subst, _∙_}
+use mathlib.Core.Path.{sym, subst}
 use native.Mathlib.Omega.{arith}
-use Prim.Native.Nat.{ℕ, suc, _≤_}
+use Prim.Native.Nat.{_≤_}
 use Rattle.model.specs.declared.Round.{Round}
-use Rattle.model.specs.Profile.{Layout, version1}
+use Rattle.model.specs.Profile.{Layout, version1, costLimit}
 use Rattle.model.specs.Path.{shortestPaths}
 use Rattle.model.specs.Calls.{firstOf, greaterThan}
 use Rattle.path_answers.specs.Routed.{noneNumber, RoutedBy}
@@ -29,12 +29,12 @@ search-requires c κs =
     let start = c .before .before .before .before in
     let a = start .args in
     let e = sym (c .first-version .ensures) in
-    ((subst Sound e version1-sound, subst (λ (L : Layout). L .mostCost ≤ 65535) e (omega arith), subst (λ (L : Layout). Ready L (a .profile .now) (a .exclude .now) (a .q)) e (start .pre .0)), start .pre .1)
+    ((subst Sound e version1-sound, subst (λ (L : Layout). L .mostCost ≤ costLimit) e (omega arith), subst (λ (L : Layout). Ready L (a .profile .now) (a .exclude .now) (a .q)) e (start .pre .0)), start .pre .1)
 
 answered-requires : tie.Need-answered-requires
 answered-requires c κs =
     let start = c .before .before .before .before .before in
-    (omega (arith, start .pre .0 .most), λ t. (c .search .ensures .is .there t) .small)
+    omega (arith, start .pre .0 .most)
 
 returns : tie.Need-returns
 returns c =
