@@ -38,7 +38,7 @@ extern "C" {
  *    15  out of order, or after a record of area kind 0 of its AS
  *    16  AS outside the reserved ranges in class 0, inside them in class 1
  *  then each hop record in turn
- *    17  malformed
+ *    17  malformed; so is a cost over 16,777,215
  *    18  out of order
  *    16  a node's address outside the reserved ranges, or inside, likewise
  *  then all hop records once more
@@ -163,7 +163,8 @@ uint32_t yq_write_list(const uint8_t *profile, size_t profile_count,
  *   bandwidth_bits  the bandwidth asked for: the bits of a 32-bit float
  *   bound_counts    whether the cost bound counts
  *   bound_bits      the cost bound: the bits of a 32-bit float; not looked at
- *                   where it doesn't count
+ *                   where it doesn't count. A path's total is compared with it
+ *                   as it is, not as a float.
  *
  * The four lent buffers have an element for each entry, domain by domain in the
  * order of the sequence, in each domain by ascending address, so 241 elements
@@ -227,8 +228,11 @@ uint32_t yq_tree(const uint8_t *profile, size_t profile_count,
  *     0  the path is at the start of the buffer; the rest of it is untouched
  *
  * numbers[0]  place, as yq_tree stores it
- * numbers[1]  on 0 the path's total cost as a whole number; else 0
- * numbers[2]  on 0 the bits of the 32-bit float of exactly that value; else 0
+ * numbers[1]  on 0 the path's total cost as a whole number, at most
+ *             268,435,440; else 0
+ * numbers[2]  on 0 the bits of the 32-bit float nearest to the total, of two as
+ *             near the one whose last bit is even; else 0. Up to 16,777,216 it
+ *             is the total; above, it may lie up to 8 beside it.
  * numbers[3]  on 0 the round, 1 or 2; else 0
  */
 uint32_t yq_first(const uint8_t *profile, size_t profile_count,
@@ -278,8 +282,8 @@ uint32_t yq_next(const uint8_t *profile, size_t profile_count,
  *   sizes    for each call how many addresses its result buffer has
  *   buffers  the calls' result buffers, back to back, each of any content
  *   numbers  five for each call: its answer, place, total as a whole number,
- *            total as the bits of a float, and round; what lies past them is
- *            untouched
+ *            total as the bits of a float, and round, as yq_first stores
+ *            them; what lies past them is untouched
  *
  * Returns
  *

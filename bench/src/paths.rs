@@ -7,9 +7,9 @@ use reference::{generate, Question, Request, ShortestPaths};
 use tests::by_hand::{ask, profile_w, SHORT};
 use tests::paths::{first, next, LONGEST};
 
-/// The largest profile with a sequence of 16, in one round and in two, the one
-/// with the most equal paths, where next goes on from a late path, and profile
-/// W.
+/// The largest profile with a sequence of 16, in one round and in two, and with
+/// wide costs and a bound; the one with the most equal paths, where next goes on
+/// from a late path; and profile W.
 pub fn first_and_next() {
     let largest = generate::largest_request(0);
     let listed = shortest(&largest.request());
@@ -19,6 +19,9 @@ pub fn first_and_next() {
     for (name, case) in NAMES.iter().zip(two_rounds()) {
         race_first(&format!("first, 16 domains, {name}"), &case.request());
     }
+
+    let wide = generate::largest_wide_request(0);
+    race_first("first, 16 domains, wide costs, a bound", &wide.request());
 
     let equal = generate::equal_paths_request();
     let listed = shortest(&equal.request());

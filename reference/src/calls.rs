@@ -1,7 +1,7 @@
 //! The six calls, as the C interface has them.
 
 use crate::check::check;
-use crate::floats::bits_of_whole;
+use crate::floats::nearest_bits;
 use crate::outcome::{settle, NotDone};
 use crate::paths::ShortestPaths;
 use crate::request::{accept_include, Question, Request};
@@ -133,5 +133,5 @@ fn hand_out(
         return NotDone::at(none, 0);
     };
     path[..found.len()].copy_from_slice(&found);
-    Ok([0, total, bits_of_whole(total), shortest.round()])
+    Ok([0, total, nearest_bits(total), shortest.round()])
 }

@@ -8,7 +8,8 @@ use crate::reserved;
 
 const MAX_DOMAINS: usize = 64;
 const MAX_HOPS: usize = 3000;
-const MAX_COST: u32 = 65_535;
+/// What a wide IS-IS metric holds, 24 bits.
+const MAX_COST: u32 = 16_777_215;
 const MAX_ENTRY_NODES: usize = 16;
 
 /// The profile, or the first thing wrong with it.

@@ -38,7 +38,8 @@ pub struct Listed {
     pub round: u32,
 }
 
-/// An accepted request, with the floats as the machine's own.
+/// An accepted request, with the floats as the machine's own. The bound is one of
+/// 64 bits, which holds every total and every bound as it is.
 #[derive(Clone, Debug)]
 pub struct Plain<'a> {
     question: Question<'a>,

@@ -2,7 +2,7 @@
 //! themselves, and as document 01's book (here: reference series) has it.
 
 use crate::calls::{first, next, read_include};
-use crate::floats::bits_of_whole;
+use crate::floats::nearest_bits;
 use crate::outcome::{settle, NotDone};
 use crate::paths::ShortestPaths;
 use crate::plain::Plain;
@@ -161,6 +161,6 @@ impl Book {
         let total = self.total.expect("a listed path has a total");
         buffer[..path.len()].copy_from_slice(&path);
         self.position = position + 1;
-        Ok([0, total, bits_of_whole(total), self.round])
+        Ok([0, total, nearest_bits(total), self.round])
     }
 }

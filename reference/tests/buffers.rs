@@ -113,6 +113,7 @@ fn check_path(
     let end = result_end(number, numbers, length);
     unchanged_from(end, before, after, seed);
     if number == 0 {
+        // The machine's own conversion, which rounds as document 02 asks.
         assert_eq!(numbers[2], (numbers[1] as f32).to_bits(), "seed {seed}");
         if let Some(given) = given {
             assert!(after[..end] > given[..], "seed {seed}");

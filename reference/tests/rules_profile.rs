@@ -117,8 +117,10 @@ fn malformed_hops() {
         (0, &[0u8, 3][..]),
         (0, &[1, 1]),
         (2, &[0, 3]),
-        (12, &[0, 1, 0, 0]),
+        (12, &[1, 0, 0, 0]),
+        (12, &[1, 0, 0, 1]),
         (12, &[0x80, 0, 0, 0]),
+        (12, &[0xFF, 0xFF, 0xFF, 0xFF]),
         (16, &[0x7F, 0x80, 0, 0]),
         (16, &[0x7F, 0xC0, 0, 0]),
         (16, &[0x80, 0, 0, 0]),
@@ -129,7 +131,13 @@ fn malformed_hops() {
             "{offset} {wrong:?}"
         );
     }
-    assert_eq!(check(&changed(&[(at + 12, &[0, 0, 0xFF, 0xFF])])), (0, 0));
+    for cost in [
+        &[0u8, 0, 0xFF, 0xFF][..],
+        &[0, 1, 0, 0],
+        &[0, 0xFF, 0xFF, 0xFF],
+    ] {
+        assert_eq!(check(&changed(&[(at + 12, cost)])), (0, 0), "{cost:?}");
+    }
     assert_eq!(
         check(&changed(&[(at + 16, &[0x7F, 0x7F, 0xFF, 0xFF])])),
         (0, 0)
@@ -233,6 +241,6 @@ fn sixteen_entry_nodes_each_way_and_many_hops() {
 #[test]
 fn nineteen_is_told_after_every_hop_passed() {
     let mut hops: Vec<Vec<u8>> = (0..17).map(|n| hop(0, 1, node(0), node(n), 0, 0)).collect();
-    hops.push(hop(1, 1, node(0), node(0), 65_536, 0));
+    hops.push(hop(1, 1, node(0), node(0), 16_777_216, 0));
     assert_eq!(check(&file(0, &two_domains(), &hops)), (17, 2 + 17));
 }

@@ -4,6 +4,7 @@
 //! leave.
 
 pub mod compare;
+pub mod floats;
 pub mod frames;
 pub mod lists;
 pub mod metrics;
@@ -11,15 +12,17 @@ pub mod paths;
 pub mod pcrep;
 pub mod pcreq;
 mod request;
-pub mod rows;
 pub mod series;
 pub mod stack;
 pub mod tree;
+pub mod wide;
 pub mod wrong;
 
 /// Profiles written out by hand, shared with the reference's own tests.
 #[path = "../../reference/tests/common/mod.rs"]
 pub mod by_hand;
+
+pub use by_hand::rows;
 
 extern "C" {
     fn yq_check_profile(profile: *const u8, profile_count: usize, numbers: *mut u32) -> u32;

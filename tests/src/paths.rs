@@ -2,6 +2,7 @@
 
 use crate::by_hand::desired::any_desired;
 use crate::compare::{compare, Answer, Case, Lent};
+use crate::floats::nearest;
 use crate::request::{call, declare};
 use reference::{Question, Request};
 use std::fmt::Display;
@@ -112,7 +113,7 @@ impl PathCase<'_> {
         let ends = (path[0], path[length - 1]);
         assert_eq!(place, 0, "{which}: {answer:?}");
         assert_eq!(ends, (self.request.source, self.request.destination));
-        assert_eq!(f32::from_bits(float_bits), total as f32, "{which}");
+        assert_eq!(float_bits, nearest(total), "{which}");
         let may_be = round == 1 || round == 2 && any_desired(self.request.exclude);
         assert!(may_be, "{which}: {answer:?}");
         Ok((path, total, round))

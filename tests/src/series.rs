@@ -2,7 +2,9 @@
 //! library, by the reference and by document 01's book.
 
 use crate::compare::Lent;
+use crate::paths::path_length;
 use crate::request::{call, declare};
+use reference::generate::Random;
 use reference::{reference_series, Call, Outcome, Request};
 use std::fmt::Display;
 
@@ -137,4 +139,24 @@ fn outcomes(numbers: &[u32]) -> Vec<Outcome> {
         numbers: [place, total, float_bits, round],
     };
     each.iter().map(outcome).collect()
+}
+
+/// A series of up to 12 calls, by the library, the reference and the book.
+#[track_caller]
+pub fn any(random: &mut Random, request: Request, which: &str) -> Ran {
+    let length = path_length(&request);
+    let mut calls: Vec<Call> = Vec::new();
+    let mut buffers: Vec<Vec<u32>> = Vec::new();
+    for i in 0..random.between(1, 12) {
+        let is_first = i == 1 || random.chance(1, 5);
+        calls.push(if is_first { Call::First } else { Call::Next });
+        let capacity = random.capacity(length);
+        buffers.push(random.words(capacity));
+    }
+    let case = SeriesCase {
+        request,
+        calls: &calls,
+        buffers: &buffers,
+    };
+    case.agreed(which)
 }

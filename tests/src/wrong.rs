@@ -92,7 +92,7 @@ fn profiles() -> Vec<Part<Vec<u8>>> {
         (with_domain(15, domain(64512, 0, &[])), 16, 15),
         (with_hop(0, hop(0, 1, free_node, 0, 0, 0)), 16, 18),
         (with_hop(18, hop(1, 2, node(2), u32::MAX, 0, 0)), 16, 36),
-        (with_hop(0, hop(0, 1, SOURCE, node(0), 65_536, 0)), 17, 18),
+        (with_hop(0, hop(0, 1, SOURCE, node(0), 1 << 24, 0)), 17, 18),
         (with_hop(18, hop(1, 18, node(2), node(22), 0, 0)), 17, 36),
         (with_hop(1, hop(0, 1, SOURCE, node(0), 0, 0)), 18, 19),
         (with_hop(18, hop(1, 2, node(1), node(21), 0, 0)), 18, 36),

@@ -3,27 +3,23 @@
 
 use reference::Request;
 use tests::by_hand::{ask, domain, file, hop, profile_w, B100, B1000, P, Q, S, SHORT, T, U, Z};
+use tests::floats::{keeps, nearest};
 use tests::lists::excluded;
 use tests::paths::{find_first, find_next, listing, Found};
-use tests::rows::{row, row_path};
+use tests::rows::{row, row_path, spread};
 
 // Bounds and bandwidth.
 
-/// Costs that add up to `total`, as even as can be.
-fn costs(total: u32) -> [u32; 16] {
-    std::array::from_fn(|i| total / 16 + u32::from((i as u32) < total % 16))
-}
-
 #[test]
 fn bounds_around_every_kind_of_total() {
-    let powers = (0..20).flat_map(|power| [(1 << power) - 1, 1 << power, (1 << power) + 1]);
-    let others = [14, 1_000, 65_535, 1_048_559, 1_048_560];
+    let powers = (0..28).flat_map(|power| [(1 << power) - 1, 1 << power, (1 << power) + 1]);
+    let others = [14, 1_000, 1_048_560, 268_435_439, 268_435_440];
     let mut cases = 0;
     for total in powers.chain(others) {
-        let (profile, include) = row(&costs(total));
+        let (profile, include) = row(&spread(total, 16));
         let path = row_path(16);
-        let exact = (total as f32).to_bits();
-        let around = [exact.saturating_sub(1), exact, exact + 1];
+        let float = nearest(total);
+        let around = [float.saturating_sub(1), float, float + 1];
         let edges = [
             0,
             1,
@@ -40,7 +36,7 @@ fn bounds_around_every_kind_of_total() {
                 bound_bits,
                 ..ask(&profile, &include)
             };
-            let within = f64::from(total) <= f64::from(f32::from_bits(bound_bits));
+            let within = keeps(total, bound_bits);
             let which = format!("total {total}, bound {bound_bits:08X}");
             let found: Found = Ok((path.clone(), total, 1));
             let (first, next) = match within {

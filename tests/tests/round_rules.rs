@@ -4,10 +4,11 @@
 
 use reference::Call::{First, Next};
 use reference::Request;
-use tests::by_hand::{ask, domain, file, hop, profile_w, B100, P, Q, S, SHORT, T, U, Z};
+use tests::by_hand::{ask, profile_w, P, Q, S, SHORT, T, U, Z};
+use tests::floats::{keeps, nearest};
 use tests::lists::{excluded, is_is, long_as, marked, ospf, short_as};
 use tests::paths::{find_first, find_next, listing};
-use tests::rows::{row, row_path};
+use tests::rows::{row, row_path, two_ways};
 use tests::series::SeriesCase;
 use tests::tree::build;
 
@@ -49,7 +50,7 @@ fn pieces() -> Vec<Piece> {
 fn admissible(gone: &[u32], bound: Option<f32>) -> Vec<([u32; 4], u32)> {
     let kept = PATHS.into_iter().filter(|(path, total)| {
         let free = path.iter().all(|node| !gone.contains(node));
-        free && bound.is_none_or(|bound| *total as f32 <= bound)
+        free && bound.is_none_or(|bound| keeps(*total, bound.to_bits()))
     });
     let kept: Vec<_> = kept.collect();
     let least = kept.iter().map(|&(_, total)| total).min();
@@ -184,24 +185,6 @@ fn every_place_of_a_full_list() {
 
 // Bounds around the totals of both rounds.
 
-/// A row of 16 domains with two entry nodes in the second: one on the way of
-/// `total`, and one, S + 100, on a way that costs `more` than that.
-fn two_ways(total: u32, more: u32) -> (Vec<u8>, Vec<u8>) {
-    let cost = |i: u32| total / 16 + u32::from(i < total % 16);
-    let mut hops = vec![
-        hop(0, 1, S, S + 100, cost(0) + more, B100),
-        hop(1, 2, S + 100, S + 2, cost(1), B100),
-    ];
-    for i in 0..16 {
-        let (from, to) = (i as u16, (i as u16 + 1).min(15));
-        hops.push(hop(from, to, S + i, S + i + 1, cost(i), B100));
-    }
-    hops.sort();
-    let domains: Vec<_> = (0..16).map(|i| domain(64496 + i, 0, &[])).collect();
-    let include = (1..16).flat_map(|i| short_as(64496 + i)).collect();
-    (file(0, &domains, &hops), include)
-}
-
 /// The cheaper way is desired away, so that the dearer one is the first round's.
 #[test]
 fn bounds_around_the_totals_of_both_rounds() {
@@ -209,13 +192,18 @@ fn bounds_around_the_totals_of_both_rounds() {
     let mut dear = cheap.clone();
     dear[1] = S + 100;
     let exclude = marked(excluded(S + 1, 32));
-    let powers = (0..20).flat_map(|power| [(1 << power) - 1, 1 << power]);
+    let powers = (0..28).flat_map(|power| [(1 << power) - 1, 1 << power]);
     let mut cases = [0; 3];
-    for total in powers.chain([14, 1_000, 65_535, 1_000_000]) {
+    for total in powers.chain([14, 1_000, 1_000_000, 268_435_140]) {
         for more in [1, 2, 300] {
             let (profile, include) = two_ways(total, more);
-            let bits = |total: u32| (total as f32).to_bits();
-            let around = |total| [bits(total).saturating_sub(1), bits(total), bits(total) + 1];
+            let around = |total| {
+                [
+                    nearest(total).saturating_sub(1),
+                    nearest(total),
+                    nearest(total) + 1,
+                ]
+            };
             let bounds = [around(total), around(total + more)].concat();
             for bound_bits in bounds.into_iter().chain([0, 1, 0x7F7F_FFFF]) {
                 let request = Request {
@@ -225,7 +213,7 @@ fn bounds_around_the_totals_of_both_rounds() {
                     bound_bits,
                     ..ask(&profile, &include)
                 };
-                let within = |total| f64::from(total) <= f64::from(f32::from_bits(bound_bits));
+                let within = |total| keeps(total, bound_bits);
                 let (round, path) = match (within(total + more), within(total)) {
                     (true, _) => (1, Some((&dear, total + more))),
                     (_, true) => (2, Some((&cheap, total))),

@@ -3,15 +3,13 @@
 //! that it stands for; and what excluding something that isn't there changes.
 
 use reference::generate::{self, NextCase, Random};
-use reference::Call::{self, First, Next};
 use reference::Request;
 use tests::by_hand::desired::{all_demanded, any_desired, demanded_alone, Decided, Outcomes};
 use tests::compare::{compare, seeds, Answer, Kinds, Lent};
 use tests::lists::{excluded, is_is, long_as, marked, ospf, short_as, verdict};
-use tests::paths::{find_first, find_next, path_length, Found, PathCase};
-use tests::series::{Ran, SeriesCase};
-use tests::stack;
+use tests::paths::{find_first, find_next, Found, PathCase};
 use tests::tree::{self, build, Tree, TreeCase, MOST_ENTRIES};
+use tests::{series, stack};
 
 /// Tree, first and next with capacity to spare.
 #[track_caller]
@@ -55,26 +53,6 @@ fn left(case: &NextCase, request: Request, which: &str) -> Left {
     )
 }
 
-/// A series of up to 12 calls, by the library, the reference and the book.
-#[track_caller]
-fn any_series(random: &mut Random, request: Request, which: &str) -> Ran {
-    let length = path_length(&request);
-    let mut calls: Vec<Call> = Vec::new();
-    let mut buffers: Vec<Vec<u32>> = Vec::new();
-    for i in 0..random.between(1, 12) {
-        let is_first = i == 1 || random.chance(1, 5);
-        calls.push(if is_first { First } else { Next });
-        let capacity = random.capacity(length);
-        buffers.push(random.words(capacity));
-    }
-    let case = SeriesCase {
-        request,
-        calls: &calls,
-        buffers: &buffers,
-    };
-    case.agreed(which)
-}
-
 /// Tree, first and next on each, a series on one in four. How the round comes
 /// about is asked of the library itself, by requests that have one round.
 #[test]
@@ -98,7 +76,7 @@ fn generated_requests() {
         left(&case, request, which);
         if seed % 4 == 0 {
             let random = &mut Random::new(seed, 115);
-            let (calls, _) = any_series(random, request, which);
+            let (calls, _) = series::any(random, request, which);
             for call in calls {
                 let named = if call.number == 0 { round } else { 0 };
                 assert_eq!(call.numbers[3], named, "{which}");
@@ -202,7 +180,7 @@ fn excluding_what_the_profile_lacks() {
         }
         let piece = lacked(request.profile)[random.below(6)].clone();
         let series = random.step();
-        let ran = any_series(&mut Random::new(series, 117), request, which);
+        let ran = series::any(&mut Random::new(series, 117), request, which);
         for desired in [false, true] {
             let added = match desired {
                 true => marked(piece.clone()),
@@ -220,7 +198,7 @@ fn excluding_what_the_profile_lacks() {
             let after = left(&case, more, which);
             assert_eq!(after.1, before.1, "{which}: first");
             assert_eq!(after.2, before.2, "{which}: next");
-            let series = any_series(&mut Random::new(series, 117), more, which);
+            let series = series::any(&mut Random::new(series, 117), more, which);
             assert_eq!(series, ran, "{which}: series");
             let mut expected = before.0.clone();
             let opens = desired && number == 0 && opens_a_second(&request, which);

@@ -100,21 +100,21 @@ fn cost_0_is_a_price() {
     assert_eq!(built, tree_of(&[(0, S, Some(0))], 1));
 }
 
-/// The dearest path there can be: 16 hops of cost 65,535.
+/// The dearest path there can be: 16 hops of cost 16,777,215.
 #[test]
 fn the_greatest_total() {
-    let (profile, include) = row(&[65_535; 16]);
+    let (profile, include) = row(&[16_777_215; 16]);
     let path = row_path(16);
     let request = Request {
         destination: path[16],
         ..ask(&profile, &include)
     };
-    let cost = |i: u32| Some(65_535 * (16 - i));
+    let cost = |i: u32| Some(16_777_215 * (16 - i));
     let expected: Vec<Entry> = (0..16)
         .zip(path)
         .map(|(i, node)| (i, node, cost(i)))
         .collect();
-    assert_eq!(expected[0].2, Some(1_048_560));
+    assert_eq!(expected[0].2, Some(268_435_440));
     assert_eq!(build(&request, "dearest"), tree_of(&expected, 16));
 }
 

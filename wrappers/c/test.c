@@ -1,6 +1,6 @@
 /* The wrapper on document 01's worked examples, each call and each kind of
- * answer, and on desired exclusions. The first argument is the file of profile
- * W. */
+ * answer, on desired exclusions and on wide costs. The first argument is the
+ * file of profile W. */
 #include <math.h>
 #include <stdio.h>
 #include <stdlib.h>
@@ -151,6 +151,31 @@ static void rounds(void)
     costed_in(2, asked, cases[1].costs);
 }
 
+/* W with 16,777,203 more on each last hop: the total is no float, and the bound
+ * is held against the whole number. */
+static void wide_costs(void)
+{
+    uint8_t bytes[sizeof w_bytes];
+    yq_profile wide;
+    yq_path path;
+    yq_request asked = request();
+    memcpy(bytes, w_bytes, sizeof bytes);
+    bytes[205] = bytes[206] = bytes[225] = bytes[226] = 0xFF;
+    bytes[207] = 0xF5;
+    bytes[227] = 0xF6;
+    EXPECT(is(yq_profile_open(&wide, bytes, sizeof bytes), 0, 0));
+    EXPECT(is(yq_profile_first(&wide, &asked, &path), 0, 0));
+    EXPECT(path.addresses[1] == NODE(P) && path.addresses[2] == NODE(U));
+    EXPECT(path.total == 16777217 && path.total_float == 16777216);
+    asked.bounded = true;
+    asked.bound = path.total_float;
+    EXPECT(is(yq_profile_first(&wide, &asked, &path), 1, 0));
+    asked.bound = 16777218;
+    EXPECT(is(yq_profile_first(&wide, &asked, &path), 0, 0));
+    bytes[224] = 1;
+    EXPECT(is(yq_profile_open(&wide, bytes, sizeof bytes), 17, 10));
+}
+
 static void next(void)
 {
     yq_request asked = request();
@@ -266,6 +291,7 @@ int main(int count, char **arguments)
     tree();
     paths();
     rounds();
+    wide_costs();
     next();
     refusals();
     profiles();

@@ -80,7 +80,7 @@ typedef struct {
     } entries[YQ_ENTRIES];
 } yq_entries;
 
-/* A path, its total as a whole number and as a float, and its round. */
+/* A path, its total as a whole number and as the nearest float, and its round. */
 typedef struct {
     size_t count;
     uint32_t addresses[YQ_ADDRESSES];

@@ -1,5 +1,5 @@
 """The wrapper on document 01's worked examples, each call and each kind of answer,
-and on desired exclusions."""
+on desired exclusions and on wide costs."""
 
 import math
 import pathlib
@@ -83,6 +83,18 @@ class ProfileW(unittest.TestCase):
         missed = {"exclude": bytes.fromhex("A004FBFF"), "bound": 13.0}
         self.assertIsNone(self.w.first(request(**missed)))
         self.costed(2, (14, 4, 11, 2, 3), **missed)
+
+    def test_wide_costs(self):
+        # 16,777,203 more on each last hop: the total is no float, and the bound is held
+        # against the whole number.
+        t, u = (bytes.fromhex(cost) for cost in ("00FFFFF5", "00FFFFF6"))
+        wide = Profile(W[:204] + t + W[208:224] + u + W[228:])
+        path = wide.first(request())
+        self.assertEqual(path, Path((S, P, U, Z), 16777217, 16777216.0, 1))
+        self.assertIsNone(wide.first(request(bound=path.total_float)))
+        self.assertIsNone(wide.first(request(bound=16777217.0)))  # the same as a 32-bit float
+        self.assertEqual(wide.first(request(bound=16777218.0)), path)
+        self.refused(17, 10, Profile, W[:224] + b"\x01" + W[225:])
 
     def test_first_and_next(self):
         path = self.w.first(request())

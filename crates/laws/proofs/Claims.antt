@@ -49,7 +49,7 @@ module _ (r : Request) (sequence : List Stop) (bytes : Bytes (r .profile)) (yes 
   unfolding paths searchOf searchIn
   each-long p m = suffix-length (searchOf r sequence) (legs sequence) 0 (r .source) p m ∙ ap suc (length-legs sequence)
 
-  -- a list is among the paths exactly when it is a path; each once, ascending; its total is the sum of its hops' costs, at most 1,048,560
+  -- a list is among the paths exactly when it is a path; each once, ascending; its total is the sum of its hops' costs, at most 268,435,440
   pub paths-are-the-paths : ThePaths (searchOf r sequence)
   paths-are-the-paths = accepted-paths r sequence yes sorted
 

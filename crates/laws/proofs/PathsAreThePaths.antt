@@ -100,7 +100,7 @@ unfolding paths
 paths-total-bound S most c r m =
     subst (λ (k : ℕ). r .total ≤ k * most) (length-legs (S .sequence)) (suffix-total-bound S most c (legs (S .sequence)) 0 (S .source) r m)
 
--- of at most 16 domains and hops of costs up to 65,535: at most 1,048,560
+-- of at most 16 domains and hops of costs up to 16,777,215: at most 268,435,440
 pub paths-total-limit
     : (S : Search)
     → length (S .sequence) ≤ 16
@@ -121,7 +121,7 @@ pub record ThePaths (S : Search) : Type 0 where
   pub ascending : Ascending (map addressesOf (paths S))
   -- each is there once
   pub once : (p : List ℕ) (before after : List (List ℕ)) → map addressesOf (paths S) ≡ before ++ p ∷ after → (List·Memᴰ p before → ⊥) × (List·Memᴰ p after → ⊥)
-  -- its total is the sum of the costs of its hops, and at most 1,048,560
+  -- its total is the sum of the costs of its hops, and at most 268,435,440
   pub totals : (r : Route) → List·Memᴰ r (paths S) → r .total ≡ total S (r .addresses)
   pub limit : (r : Route) → List·Memᴰ r (paths S) → r .total ≤ totalLimit
 

@@ -1,4 +1,5 @@
--- The exact value of a 32-bit float in units of 2^-149, its range, and the float of a total: document 01, "What a request holds" and "Paths and the tree".
+-- The exact value of a 32-bit float in units of 2^-149, and its range: document 01, "What a request holds" and "Paths and the tree". The float of a total:
+-- document 02, request [4].
 use Prim.Native.Nat.{ℕ, min, _+_, _-_, _*_, _/_, _%_, _^_, _≤_}
 use mathlib.Core.Path.{_≡_}
 use mathlib.Core.Bool.{Bool, true, not, _&&_}

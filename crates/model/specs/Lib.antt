@@ -16,4 +16,5 @@ pub mod Answers
 pub mod Rounds
 pub mod Calls
 pub mod Series
+pub mod WorkedFloats
 pub mod WorkedCases

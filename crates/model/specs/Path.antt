@@ -89,9 +89,9 @@ totalOver hs (leg ∷ rest) (a ∷ b ∷ more) = costBetween hs leg a b + totalO
 abbrev pub total : Search → List ℕ → ℕ
 total S p = totalOver (S .hops) (legs (S .sequence)) p
 
--- the largest total: sixteen hops of the largest cost
+-- the largest total: sixteen hops of the largest cost. That no path has more is a law
 abbrev pub totalLimit : ℕ
-totalLimit = 1048560
+totalLimit = 268435440
 
 -- the bound, where it counts
 abbrev pub boundKept : Bool → Limits → ℕ → Bool

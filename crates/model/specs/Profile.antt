@@ -20,9 +20,9 @@ pub record Layout : Type 0 where
   pub mostCost : ℕ
   pub mostHops : ℕ
 
--- the largest cost of a hop, in every version
+-- the largest cost of a hop, in every version: 24 bits, as a wide IS-IS metric has (document 02, request [4])
 abbrev pub costLimit : ℕ
-costLimit = 65535
+costLimit = 16777215
 
 abbrev pub version1 : Layout
 version1 = record { hopSize = 20; costAt = 12; mostCost = costLimit; mostHops = 3000 }

@@ -1,11 +1,12 @@
 -- Profile W, the second profile of document 01's examples, and every starred case of its section "Profile W and what it gives": one table of rows
--- (call, inputs, the whole outcome); a second table with cases of document 02's request [1] on W, worked out by hand; and one theorem, that each row of
--- both holds, computed from the bytes up.
+-- (call, inputs, the whole outcome); two more tables with cases of document 02's requests [1] and [4] on W, worked out by hand; and one theorem, that each
+-- row of all holds, computed from the bytes up.
 use Prim.Native.Nat.{ℕ, zero, suc, _+_, _-_, _*_, _/_, _%_, _^_}
 use mathlib.Core.Path.{_≡_, refl}
 use mathlib.Core.Bool.{Bool, true, false}
 use mathlib.Core.List.{List, [], _∷_, _++_, map}
 use mathlib.Core.Option.{Option, none, some}
+use lib.ListN.{take, drop}
 use lib.Ieee.{binary32, ofBits, toBits, ofFields, odd, size, span, climb, ofInt, round, isNan}
 use lib.Ieee as Ieee
 use lib.Count.{trailingZeros}
@@ -280,10 +281,43 @@ desired =
     ∷ row (starting (onW toEnd desiredWithout64511 (bounded 0x41500000)) 4) (path no-path)
     ∷ []
 
+-- ---- costs above 65,535: W with another cost for SP, its first hop record, and Q excluded, so that SPUZ costs 4 more and SPTZ 5
+
+dearer : ℕ → List ℕ
+dearer cost = take 84 profileW ++ bytesOf 4 cost ++ drop 88 profileW
+
+onDearer : ℕ → Limits → Request
+onDearer cost limits =
+    record { profile = dearer cost; ingress = 0; source = S; destination = Z; include = toEnd; exclude = without 0x0c; limits = limits }
+
+-- SPUZ with this total and these bits of its float
+spuz : ℕ → ℕ → Result
+spuz total bits = path (record { numbers = numbers 0 (0 ∷ total ∷ bits ∷ 1 ∷ []); written = SPUZ })
+
+pub wide : List Row
+wide =
+    -- 16,777,217 lies between two floats, 4B800000 (16,777,216), whose last bit is even, and 4B800001 (16,777,218)
+    row (starting (onDearer 16777213 plain) 4) (spuz 16777217 0x4b800000)
+    -- a bound of its own float lies below it; the next float keeps it
+    ∷ row (starting (onDearer 16777213 (bounded 0x4b800000)) 4) (path no-path)
+    ∷ row (starting (onDearer 16777213 (bounded 0x4b800001)) 4) (spuz 16777217 0x4b800000)
+    -- the largest cost: 16,777,219 lies between 4B800001 and 4B800002 (16,777,220), whose last bit is even; as bounds the former doesn't keep it, its own float does
+    ∷ row (starting (onDearer 16777215 plain) 4) (spuz 16777219 0x4b800002)
+    ∷ row (starting (onDearer 16777215 (bounded 0x4b800001)) 4) (path no-path)
+    ∷ row (starting (onDearer 16777215 (bounded 0x4b800002)) 4) (spuz 16777219 0x4b800002)
+    -- SPUZ costs 16,777,216 and SPTZ one more: one float, but only SPUZ is listed
+    ∷ row (starting (onDearer 16777212 plain) 4) (spuz 16777216 0x4b800000)
+    ∷ row (following (onDearer 16777212 plain) SPUZ 4) (path (record { numbers = numbers 2 (0 ∷ 0 ∷ 0 ∷ 0 ∷ []); written = [] }))
+    -- the tree has whole numbers
+    ∷ row (building (onDearer 16777215 plain) 5) (entriesBuilt (record { numbers = numbers 0 (0 ∷ 5 ∷ 8 ∷ 1 ∷ []); written = at 0 S 16777219 ∷ at 1 P 4 ∷ cut 1 Q ∷ at 2 T 2 ∷ at 2 U 3 ∷ [] }))
+    -- one more than the largest cost, in the first hop record behind three domain records
+    ∷ row (starting (onDearer 16777216 plain) 4) (path (record { numbers = numbers 17 (3 ∷ 0 ∷ 0 ∷ 0 ∷ []); written = [] }))
+    ∷ []
+
 pub table : List Row
-table = starred ++ desired
+table = starred ++ desired ++ wide
 
 -- every row holds
 pub worked-cases : map (λ (r : Row). outcome (r .case)) table ≡ map (λ (r : Row). r .expected) table
-unfolding profileW profileOspf toEnd toEnd5 throughU back without desiredWithout desiredWithout64511 plain bounded above100 onW short whole alone bookOf outcome numbers through at cut costs14 treeW calls givesIn gives ends none-there SPUZ SPTZ SQTZ SQUZ three no-path row starred desired table countFrom keep all any each among allDifferent sum least same below insert different over number bytesOf allZero inTurn inRanges misplaced Profile.headerWrong Profile.countsWrong Profile.lengthWrong Profile.headerVerdict Profile.domainAt Profile.domains Profile.areaLengthFits Profile.domainMalformed Profile.domainMisordered Profile.domainVerdict Profile.hopAt Profile.hops Profile.hopMalformed Profile.hopMisordered Profile.hopVerdict Profile.entryNodes Profile.crowded Profile.crowdedVerdict Profile.profileVerdict Subobject.known Subobject.lengthFits Subobject.subobjectVerdict Subobject.namedAt Subobject.formFrom Subobject.formVerdict Subobject.subobjectsFrom Subobject.subobjects ofSystem ofArea enter name readOne readAll meaning writtenFrom written stops unwritable inForce someDesired excludedDomain excludedNode units inRange atLeast atMost floatOf requestVerdict sequenceOf searchIn roundOf searchOf Path.legs Path.keepsBound Path.allowed Path.hopsFrom Path.suffixes Path.paths Path.admissible Path.cheapest Path.shortestPaths Tree.entriesAt Tree.entry Tree.tree Tree.tally readingOf readInclude writeList buildTree first greaterThan next book run ofBits toBits ofFields odd size span climb ofInt round isNan Ieee.units trailingZeros
+unfolding profileW profileOspf toEnd toEnd5 throughU back without desiredWithout desiredWithout64511 plain bounded above100 onW short whole alone bookOf outcome numbers through at cut costs14 treeW calls givesIn gives ends none-there SPUZ SPTZ SQTZ SQUZ three no-path row starred desired dearer onDearer spuz wide table countFrom keep all any each among allDifferent sum least same below insert different over number bytesOf allZero inTurn inRanges misplaced Profile.headerWrong Profile.countsWrong Profile.lengthWrong Profile.headerVerdict Profile.domainAt Profile.domains Profile.areaLengthFits Profile.domainMalformed Profile.domainMisordered Profile.domainVerdict Profile.hopAt Profile.hops Profile.hopMalformed Profile.hopMisordered Profile.hopVerdict Profile.entryNodes Profile.crowded Profile.crowdedVerdict Profile.profileVerdict Subobject.known Subobject.lengthFits Subobject.subobjectVerdict Subobject.namedAt Subobject.formFrom Subobject.formVerdict Subobject.subobjectsFrom Subobject.subobjects ofSystem ofArea enter name readOne readAll meaning writtenFrom written stops unwritable inForce someDesired excludedDomain excludedNode units inRange atLeast atMost floatOf requestVerdict sequenceOf searchIn roundOf searchOf Path.legs Path.keepsBound Path.allowed Path.hopsFrom Path.suffixes Path.paths Path.admissible Path.cheapest Path.shortestPaths Tree.entriesAt Tree.entry Tree.tree Tree.tally readingOf readInclude writeList buildTree first greaterThan next book run ofBits toBits ofFields odd size span climb ofInt round isNan Ieee.units trailingZeros
 worked-cases = refl

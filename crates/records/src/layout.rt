@@ -16,7 +16,7 @@ pub fn first_version() -> Layout
     Layout {
         hop_size: 20,
         cost_at: 12,
-        most_cost: 65535,
+        most_cost: 16777215,
         most_hops: 3000,
     }
 }

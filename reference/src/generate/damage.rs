@@ -209,12 +209,23 @@ fn hop_field(random: &mut Random, mut draft: Draft) -> Option<Planned> {
     match random.below(4) {
         0 => hop.from = random.pick(&[domains, domains + 1, 65_535]),
         1 => hop.to = random.pick(&[domains, domains + 1, 65_535]),
-        2 => hop.cost = random.pick(&[65_536, 65_537, 0x0100_0000, u32::MAX]),
+        2 => hop.cost = random.pick(&COSTS_OVER),
         _ => hop.bandwidth = random.pick(&OUT_OF_RANGE),
     }
     draft.hops[index] = hop_record(&hop);
     Some(plan(draft.encode(), 17, domains + index))
 }
+
+/// One more than the greatest cost, just above it, and far above, with all bits
+/// that a cost may have and with none.
+const COSTS_OVER: [u32; 6] = [
+    16_777_216,
+    16_777_217,
+    0x01FF_FFFF,
+    0x0200_0000,
+    0x8000_0000,
+    u32::MAX,
+];
 
 /// Infinity, NaNs, negative zero and other negative floats.
 pub const OUT_OF_RANGE: [u32; 7] = [
@@ -236,7 +247,7 @@ fn hop_order(random: &mut Random, mut draft: Draft) -> Option<Planned> {
     let index = random.below(count);
     if random.chance(1, 2) && count < 3000 {
         let mut again = draft.hop(index);
-        again.cost = random.below(65_536) as u32;
+        again.cost = random.below(1 << 24) as u32;
         draft.hops.insert(index + 1, hop_record(&again));
     } else if index + 1 < count {
         draft.hops.swap(index, index + 1);

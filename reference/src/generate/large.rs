@@ -1,11 +1,11 @@
 //! The largest profile, and one with as many equal shortest paths as the
 //! limits allow. Both have a sequence of 16 domains to cross.
 
-use super::draft::{domain_record, Draft, Hops};
+use super::draft::{domain_record, hop_record, Draft, Hops};
 use super::lists::write_route;
 use super::random::Random;
 use super::requests::RequestCase;
-use crate::profile::{Hop, IS_IS, OSPF};
+use crate::profile::{hop_of, Hop, IS_IS, OSPF};
 
 /// Where the paths through both profiles start and end.
 const SOURCE: u32 = 0xC000_0201;
@@ -37,10 +37,25 @@ pub fn largest(random: &mut Random) -> Draft {
     }
 }
 
-/// A hop of step `i`, from node `j` of domain `i` to node `l` of the next.
+/// A hop of step `i`, from node `j` of domain `i` to node `l` of the next. Its
+/// cost is small whatever the limit, so that times stay comparable.
 fn crossing(random: &mut Random, i: usize, j: usize, l: usize) -> Hop {
     let cost = random.below(4) as u32;
     step_hop(i, j, l, cost)
+}
+
+/// Raises these costs to what the limit allows, but those of the last step by 8
+/// less, so that a small total becomes one between two floats. A path has one hop
+/// of each step, so the shortest ones stay the same.
+pub fn raise(draft: &mut Draft) {
+    for record in &mut draft.hops {
+        let mut hop = hop_of(record);
+        hop.cost += match hop.from == hop.to {
+            true => 16_777_204,
+            false => 16_777_212,
+        };
+        *record = hop_record(&hop);
+    }
 }
 
 fn step_hop(i: usize, j: usize, l: usize, cost: u32) -> Hop {

@@ -2,6 +2,7 @@
 //! case brings its own buffers, filled with anything, so that two programs
 //! can be given equal arguments and compared on everything they leave.
 
+mod bounds;
 mod damage;
 mod draft;
 mod large;
@@ -15,6 +16,7 @@ mod random;
 mod requests;
 mod rounds;
 mod shapes;
+mod wide;
 mod writing;
 
 pub use damage::Planned;
@@ -163,6 +165,13 @@ pub fn round_case(seed: u64) -> NextCase {
     requests::with_given(random, request)
 }
 
+/// An accepted request with wide costs, and a given list for it.
+pub fn wide_case(seed: u64) -> NextCase {
+    let random = &mut Random::new(seed, 20);
+    let request = wide::any(random);
+    requests::with_given(random, request)
+}
+
 /// A series of calls on one request, sometimes a refused one.
 pub fn series_case(seed: u64) -> SeriesCase {
     let random = &mut Random::new(seed, 11);
@@ -181,6 +190,16 @@ pub fn largest_profile(seed: u64) -> Vec<u8> {
 /// The request that crosses 16 domains of `largest_profile(seed)`.
 pub fn largest_request(seed: u64) -> RequestCase {
     large::crossing_request(&large::largest(&mut Random::new(seed, 12)))
+}
+
+/// The same with costs up to the limit, and a bound right above the least total,
+/// which is no float.
+pub fn largest_wide_request(seed: u64) -> RequestCase {
+    let mut draft = large::largest(&mut Random::new(seed, 12));
+    large::raise(&mut draft);
+    let mut case = large::crossing_request(&draft);
+    bounds::set_just_above(&mut case);
+    case
 }
 
 /// As many equal shortest paths as the limits allow, a little above 2^58.

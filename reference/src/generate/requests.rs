@@ -1,12 +1,12 @@
 //! Requests, given lists and series of calls.
 
+use super::bounds::set_bound;
 use super::damage::{planned, OUT_OF_RANGE};
 use super::draft::Draft;
 use super::list_damage::{exclude_list, include_list};
 use super::lists::{self, entry_node, exclude_pieces, Include};
 use super::random::Random;
 use super::{rounds, shapes};
-use crate::floats::bits_of_whole;
 use crate::outcome::NotDone;
 use crate::paths::ShortestPaths;
 use crate::request::{Question, Request};
@@ -225,36 +225,6 @@ fn bandwidth(random: &mut Random, draft: &Draft) -> u32 {
         2 => random.bits() % 0x7F80_0000,
         _ => bits,
     }
-}
-
-/// The least total of each round that has a path, whatever the bound.
-pub fn least_totals(case: &RequestCase) -> Vec<u32> {
-    let Ok(mut question) = case.question() else {
-        return Vec::new();
-    };
-    let first = Tree::new(&question).total();
-    let second = question.relax().then(|| Tree::new(&question).total());
-    first.into_iter().chain(second.flatten()).collect()
-}
-
-/// A bound at, just below or just above the least total of either round, or any
-/// other.
-pub fn set_bound(random: &mut Random, case: &mut RequestCase) {
-    let totals = least_totals(case);
-    let least = match totals.is_empty() {
-        true => 10,
-        false => random.pick(&totals),
-    };
-    let exact = bits_of_whole(least);
-    case.bound_counts = true;
-    case.bound_bits = match random.below(10) {
-        0..=3 => exact,
-        4..=5 => exact.saturating_sub(1),
-        6 => exact + 1,
-        7 => random.pick(&[0, 1, 0x007F_FFFF, 0x0080_0000, 0x7F7F_FFFF]),
-        8 => bits_of_whole(random.below(1_048_561) as u32),
-        _ => random.bits() % 0x7F80_0000,
-    };
 }
 
 fn spoil_lists(random: &mut Random, draft: &Draft, case: &mut RequestCase) {

@@ -2,12 +2,12 @@
 //! have a path, that exclusions leave without one, and that the bound does; and
 //! second rounds with and without paths.
 
+use super::bounds::{bound_between, least_totals, set_bound};
 use super::draft::Draft;
 use super::lists::{address_piece, area_piece, as_piece, exclude_pieces, Piece};
 use super::random::Random;
-use super::requests::{along_a_route, least_totals, lend, set_bound, RequestCase};
+use super::requests::{along_a_route, lend, RequestCase};
 use super::shapes;
-use crate::floats::bits_of_whole;
 use crate::paths::ShortestPaths;
 use crate::profile::NO_AREA;
 
@@ -55,18 +55,6 @@ pub fn decide(random: &mut Random, draft: &Draft, case: &mut RequestCase) {
         2..=3 => bound_between(random, case),
         _ => {}
     }
-}
-
-/// A bound that the second round's shortest paths keep and the first's don't,
-/// if there is one.
-fn bound_between(random: &mut Random, case: &mut RequestCase) {
-    let totals = least_totals(case);
-    let [first, second] = totals[..] else {
-        return set_bound(random, case);
-    };
-    let just_below = bits_of_whole(first).saturating_sub(1);
-    case.bound_counts = true;
-    case.bound_bits = random.pick(&[bits_of_whole(second), just_below]);
 }
 
 /// Nodes of the shortest paths, until what is left costs more or nothing is.

@@ -180,24 +180,45 @@ fn bare(random: &mut Random) -> Draft {
     }
 }
 
+/// The least and the most that a hop of one profile costs: mostly little, so that
+/// totals are often equal, else much up to the limit.
+const COSTS: [(usize, usize); 16] = [
+    (0, 0),
+    (0, 0),
+    (0, 0),
+    (0, 1),
+    (0, 1),
+    (0, 1),
+    (0, 2),
+    (0, 3),
+    (0, 9),
+    (0, 65_535),
+    (0, 65_536),
+    (0, 1 << 20),
+    (0, 16_777_215),
+    (16_777_215, 16_777_215),
+    (16_777_214, 16_777_215),
+    (16_777_213, 16_777_215),
+];
+
 /// What the costs and bandwidths of one profile look like.
 pub struct Style {
-    most_cost: usize,
+    costs: (usize, usize),
     fixed_bandwidth: Option<u32>,
 }
 
 impl Style {
     pub fn new(random: &mut Random) -> Style {
-        let most_cost = random.pick(&[0, 0, 1, 1, 2, 3, 9, 65_535]);
+        let costs = random.pick(&COSTS);
         let fixed = random.pick(&BANDWIDTHS);
         Style {
-            most_cost,
+            costs,
             fixed_bandwidth: random.chance(1, 2).then_some(fixed),
         }
     }
 
     pub fn hop(&self, random: &mut Random, from: usize, to: usize, u: u32, v: u32) -> Hop {
-        let cost = random.between(0, self.most_cost) as u32;
+        let cost = random.between(self.costs.0, self.costs.1) as u32;
         let bandwidth = match self.fixed_bandwidth {
             Some(bits) => bits,
             None if random.chance(1, 10) => random.bits() % 0x7F80_0000,

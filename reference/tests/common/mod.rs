@@ -4,6 +4,7 @@
 pub mod desired;
 pub mod messages;
 pub mod replies;
+pub mod rows;
 
 use reference::generate::Reading;
 use reference::Request;

@@ -94,7 +94,8 @@ class Tree:
 
 @dataclass(frozen=True)
 class Path:
-    """A shortest path, its total as a whole number and as a float, and its round."""
+    """A shortest path, its total as a whole number and as the nearest 32-bit float, and
+    its round."""
 
     addresses: tuple[str, ...]
     total: int

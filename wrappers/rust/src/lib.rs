@@ -110,7 +110,8 @@ pub struct Tree {
     pub round: u32,
 }
 
-/// A shortest path, its total as a whole number and as a float, and its round.
+/// A shortest path, its total as a whole number and as the nearest float, and its
+/// round.
 #[derive(Clone, Debug, PartialEq)]
 pub struct Path {
     pub addresses: Vec<Ipv4Addr>,

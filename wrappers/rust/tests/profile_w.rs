@@ -1,5 +1,5 @@
 //! The wrapper on document 01's worked examples, each call and each kind of
-//! answer, and on desired exclusions.
+//! answer, on desired exclusions and on wide costs.
 
 use std::net::Ipv4Addr;
 use yachayniq::{check_profile, Entry, Path, Profile, Refusal, Request, Stop, Tree};
@@ -122,6 +122,31 @@ fn paths() {
     listed(Request { exclude, ..request }, &EVERY[..1]);
     let include = THROUGH_U;
     listed(Request { include, ..request }, &[EVERY[0], EVERY[2]]);
+}
+
+/// W with 16,777,203 more on each last hop: the total is no float, and the bound
+/// is held against the whole number.
+#[test]
+fn wide_costs() {
+    let mut bytes = W.to_vec();
+    bytes[204..208].copy_from_slice(&16_777_205u32.to_be_bytes());
+    bytes[224..228].copy_from_slice(&16_777_206u32.to_be_bytes());
+    let wide = Profile::new(&bytes[..]).unwrap();
+    let path = Path {
+        addresses: EVERY[0].to_vec(),
+        total: 16_777_217,
+        total_float: 16_777_216.0,
+        round: 1,
+    };
+    let bounded = |bound| Request {
+        bound: Some(bound),
+        ..request()
+    };
+    assert_eq!(wide.first(&request()), Ok(Some(path.clone())));
+    assert_eq!(wide.first(&bounded(path.total_float)), Ok(None));
+    assert_eq!(wide.first(&bounded(16_777_218.0)), Ok(Some(path)));
+    bytes[224] = 1;
+    assert_eq!(check_profile(&bytes), refusal(17, 10));
 }
 
 #[test]
