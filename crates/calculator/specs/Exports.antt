@@ -13,8 +13,8 @@ use Rattle.model.specs.Request.{Request}
 use Rattle.model.specs.declared.TreeEntry.{TreeEntry}
 use Rattle.model.specs.Calls.{Outcome, readInclude, pinMark, pinNode}
 use Rattle.domain_list.specs.ReadInclude.{least3}
-use Rattle.tree_fields.specs.Fields.{level, address, mark, cost}
-use Rattle.series.specs.Calls.{malformed}
+use Rattle.tree_put.specs.Fields.{level, address, mark, cost}
+use Rattle.series_form.specs.Calls.{malformed}
 use Rattle.series.specs.Runs.{numberOfSeries, answerIf, LeftIf}
 
 -- the number returned, the other numbers stored, and each buffer with its part of the sequence at its start

@@ -1,10 +1,10 @@
 // The public calls first and next: the shortest paths of a request, one at a time, into a lent list of addresses.
-use crate::route::first_route;
-use crate::route::next_route;
 use model::DomainIndex;
 use model::Limits;
 use model::NodeAddress;
 use model::PathAnswer;
+use routes::first_route;
+use routes::next_route;
 ghost use mathlib.Core.Path.{_≡_};
 ghost use Prim.Native.Nat.{_≤_};
 ghost use lib.ListN.{length, take};
@@ -13,8 +13,6 @@ ghost use Rattle.model.specs.Answers.{numbersOfPath};
 ghost use Rattle.model.specs.Calls as Calls;
 ghost use Rattle.request.specs.Checked.{requestOf};
 ghost use Rattle.path_answers.specs.Numbers.{Real};
-
-pub mod route;
 
 // The first `n` of some addresses over the start of a lent list.
 fn put_addresses(from: [u32; 17], n: usize, path: &mut [u32])

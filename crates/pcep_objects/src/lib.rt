@@ -5,16 +5,13 @@ use refusal::refuse;
 use wire::u16_at;
 use wire::wide;
 ghost use mathlib.Core.Path.{_≡_};
-ghost use Prim.Native.Nat.{_+_, _≤_, _<_};
+ghost use Prim.Native.Nat.{_≤_, _<_};
 ghost use lib.ListN.{length, getD};
 ghost use Rattle.pcep_model.specs.declared.MessageKind.the-variants.{Pcreq, Pcrep};
-ghost use Rattle.pcep_model.specs.Objects.{sizeAt};
 ghost use mathlib.Core.Bool.{true};
 ghost use Rattle.pcep_laws.specs.Table.{leasts, leastOf, fitsLeast};
 ghost use Rattle.pcep_laws.specs.Firsts.{noted};
 ghost use Rattle.pcep_objects.specs.Walked.{sizeRefused, ObjectIs, ObjectsAre};
-
-pub mod message;
 
 // The least length of the known object of each class, all of type 1, 0 where none is known. By tests, since a table in memory would be laid out anew for
 // each object.
@@ -161,7 +158,7 @@ fn first_of(known: u16, at: u16) -> u16
 }
 
 // The objects of a message, behind its header.
-pub(crate) fn objects_in(kind: MessageKind, message: &[u8]) -> Objects
+pub fn objects_in(kind: MessageKind, message: &[u8]) -> Objects
     requires { ⌜ (4 ≤ length (now message)) × (length (now message) ≤ 65535) ⌝ }
     ensures { λ r. ⌜ ObjectsAre kind (now (message .entry)) r ⌝ }
 {

@@ -20,7 +20,7 @@ use Rattle.pcep_model.specs.Metrics.{metrics, wrongMetric}
 use Rattle.pcep_model.specs.Pcreq.{listIn}
 use Rattle.pcep_model.specs.Pcrep.{eroVerdict, addressesIn, routeIn, pcrepFields, pcrepVerdict}
 use Rattle.pcep_objects.specs.declared.Objects.{Objects}
-use Rattle.pcep_objects.specs.Framed.{FrameIs}
+use Rattle.pcep_message.specs.Framed.{FrameIs}
 use Rattle.pcep_metrics.specs.Along.{Passed}
 use Rattle.pcrep_fields.specs.declared.Checked.{Checked}
 use Rattle.pcrep_fields.specs.Checked.{restVerdict, Framed, CheckedIs}

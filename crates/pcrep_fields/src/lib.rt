@@ -2,11 +2,11 @@
 use ero::address_count;
 use ero::ero_verdict;
 use model::Verdict;
+use pcep_message::frame;
 use pcep_metrics::judge;
 use pcep_model::Extent;
 use pcep_model::MessageKind;
 use pcep_model::PcrepFields;
-use pcep_objects::message::frame;
 use pcep_parts::extent_of;
 use pcep_parts::list_in;
 use refusal::refuse;

@@ -15,7 +15,7 @@ use Rattle.pcep_laws.specs.Table.{leasts}
 use Rattle.pcep_laws.proofs.Found.{Stands, object-stands, bound-stands, wrong-stands}
 use Rattle.pcep_laws.proofs.Message.{has-rp, has-ends}
 use Rattle.pcep_objects.specs.declared.Objects.{Objects}
-use Rattle.pcep_objects.specs.Framed.{FrameIs}
+use Rattle.pcep_message.specs.Framed.{FrameIs}
 use Rattle.pcep_metrics.specs.Along.{Passed}
 use Rattle.pcreq_fields.specs.Taken.{Framed}
 

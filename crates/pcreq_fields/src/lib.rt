@@ -1,11 +1,11 @@
 // What a PCReq carries, by where its first objects stand: its fields, and the METRIC that is judged as the bound.
 use model::NodeAddress;
 use model::Verdict;
+use pcep_message::frame;
 use pcep_metrics::judge;
 use pcep_model::Extent;
 use pcep_model::MessageKind;
 use pcep_model::PcreqFields;
-use pcep_objects::message::frame;
 use pcep_parts::bits_at;
 use pcep_parts::extent_of;
 use wire::u32_at;

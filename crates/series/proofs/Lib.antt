@@ -1,4 +1,3 @@
-pub mod Forms
 pub mod Pieces
 pub mod Steps
 pub mod Outcomes

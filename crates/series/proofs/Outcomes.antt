@@ -9,7 +9,7 @@ use Rattle.model.specs.Series.{Reply, run}
 use Rattle.laws.proofs.BigEndian.{Bytes}
 use Rattle.laws.proofs.Claims.{series-replies}
 use Rattle.series.specs.declared.SeriesAnswer.the-variants.{Done, Malformed}
-use Rattle.series.specs.Calls.{callsOf, malformed}
+use Rattle.series_form.specs.Calls.{callsOf, malformed}
 use Rattle.series.specs.Runs.{Left, answerIf, LeftIf, RunIs}
 
 module _ (r : Request) (kinds sizes buffers numbers : List ℕ) where

@@ -1,10 +1,10 @@
 -- One turn of the loop that makes the calls: what is left in the buffers and the numbers so far, with the replies to the calls still to make, are all the
 -- replies. By the definition of the run, a call at a time.
-use Prim.Native.Nat.{ℕ, zero, suc, _+_, _*_, _≤_, _<_}
+use Prim.Native.Nat.{ℕ, suc, _+_, _*_, _≤_, _<_}
 use native.Mathlib.Numerals.{add-one}
 use native.Mathlib.Omega.{arith}
-use mathlib.Core.Path.{_≡_, refl, sym, subst, ap, ap₂, _∙_}
-use mathlib.Core.Bool.{Bool, true, false}
+use mathlib.Core.Path.{_≡_, refl, sym, ap, ap₂, _∙_}
+use mathlib.Core.Bool.{Bool}
 use mathlib.Core.List.{List, [], _∷_, _++_, append-assoc, append-nil}
 use lib.Dec.{eqb}
 use lib.ListN.{length, getD, take, drop, take-append-drop, drop-of-length-le, length-drop}
@@ -15,14 +15,13 @@ use Rattle.model.specs.declared.PathAnswer.the-variants.{Found, NoPath, End, Re
 use Rattle.model.specs.Lists.{each, over, sum}
 use Rattle.model.specs.Request.{Request}
 use Rattle.model.specs.Answers.{Numbers, numbersOfPath}
-use Rattle.model.specs.Calls.{Outcome}
 use Rattle.model.specs.Series.{Call, Reply, replyTo, callOutcome, lastAfter, run}
 use Rattle.path_answers.specs.declared.Routed.{Routed}
 use Rattle.path_answers.specs.Routed.{RoutedBy}
-use Rattle.series.specs.Calls.{kindOf, callsOf}
+use Rattle.series_form.specs.Calls.{kindOf, callsOf}
 use Rattle.path_answers.specs.Numbers.{fiveOf}
 use Rattle.series.specs.Runs.{numbersOf, bufferOf, Left}
-use Rattle.series.proofs.Forms.{Formed, sum-here, sum-none}
+use Rattle.series_form.proofs.Forms.{Formed, sum-here, sum-none}
 use Rattle.series.proofs.Pieces.{pasted-take, pasted-drop}
 
 -- the calls from number j on, whose buffers start at a place

@@ -6,11 +6,11 @@ use mathlib.Core.List.{List}
 use lib.ListN.{length}
 use Rattle.model.specs.Lists.{each, over}
 use Rattle.model.specs.Request.{Request}
-use Rattle.model.specs.Series.{Call, Reply, replies}
+use Rattle.model.specs.Series.{Reply, replies}
 use Rattle.path_answers.specs.Numbers.{fiveOf}
 use Rattle.series.specs.declared.SeriesAnswer.{SeriesAnswer}
 use Rattle.series.specs.declared.SeriesAnswer.the-variants.{Done, Malformed}
-use Rattle.series.specs.Calls.{callsOf, malformed}
+use Rattle.series_form.specs.Calls.{callsOf, malformed}
 
 -- the five numbers of a call, and its buffer
 abbrev pub numbersOf : Reply → List ℕ

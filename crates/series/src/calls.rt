@@ -5,8 +5,8 @@ use model::Limits;
 use model::NodeAddress;
 use path_answers::Routed;
 use path_answers::numbers::five_of;
-use paths::route::first_route;
-use paths::route::next_route;
+use routes::first_route;
+use routes::next_route;
 ghost use mathlib.Core.Path.{_≡_};
 ghost use mathlib.Core.Bool.{false};
 ghost use mathlib.Core.List.{[]};
@@ -15,7 +15,7 @@ ghost use lib.ListN.{length, take};
 ghost use Rattle.model.specs.Series.{callOutcome, run};
 ghost use Rattle.request.specs.Checked.{requestOf};
 ghost use Rattle.path_answers.specs.Routed.{RoutedBy};
-ghost use Rattle.series.specs.Calls.{kindOf, callsOf, malformed};
+ghost use Rattle.series_form.specs.Calls.{kindOf, callsOf, malformed};
 ghost use Rattle.series.specs.Runs.{Left};
 
 // One call: a first, or a next after the first `n` addresses of `last`.

@@ -1,14 +1,13 @@
 // A series of calls for first and next on one request, each next given a copy of the path last handed out.
 use crate::calls::make_calls;
-use crate::form::malformed;
 use model::DomainIndex;
 use model::Limits;
 use model::NodeAddress;
+use series_form::malformed;
 ghost use Rattle.request.specs.Checked.{requestOf};
 ghost use Rattle.series.specs.Runs.{RunIs};
 
 pub mod calls;
-pub mod form;
 pub mod put;
 
 pub enum SeriesAnswer {

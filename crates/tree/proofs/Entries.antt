@@ -13,7 +13,7 @@ use Rattle.model.specs.Lists.{over, countFrom}
 use Rattle.laws.proofs.ProfileLists.{length-map-countFrom, getD-map-countFrom}
 use Rattle.reaches.specs.Reaches.{reachOf}
 use Rattle.tree_entries.specs.Entries.{entryAt, entriesOf}
-use Rattle.tree_fields.specs.Fields.{markIf, level, address, mark, cost, markOf, costOf, levelsOf}
+use Rattle.tree_put.specs.Fields.{markIf, level, address, mark, cost, markOf, costOf, levelsOf}
 use Rattle.tree_fields.specs.Solved.{Held}
 use Rattle.tree_fields.proofs.Over.{held-count, levels-over}
 

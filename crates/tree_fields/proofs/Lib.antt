@@ -1,4 +1,3 @@
-pub mod Fields
 pub mod Whole
 pub mod Outcomes
 pub mod Over

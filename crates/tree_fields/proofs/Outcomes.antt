@@ -30,8 +30,8 @@ use Rattle.levels.specs.Levels.{startOf}
 use Rattle.rounds.specs.declared.Settled.{Settled}
 use Rattle.rounds.specs.Settled.{SettledIs}
 use Rattle.vspt.proofs.Sequences.{stops-long}
+use Rattle.tree_put.specs.Fields.{levelsOf}
 use Rattle.tree_fields.specs.declared.Solved.{Solved}
-use Rattle.tree_fields.specs.Fields.{levelsOf}
 use Rattle.tree_fields.specs.Solved.{treeOutcome, treeFor, Held, SolvedBy}
 use Rattle.tree_fields.proofs.Whole.{tree-length, most, starts-at, held}
 use Rattle.model.specs.Lists.{countFrom, each}

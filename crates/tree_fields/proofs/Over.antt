@@ -7,7 +7,7 @@ use lib.ListN.{length, take, length-map}
 use lib.Seq.{length-take-le}
 use Rattle.model.specs.declared.TreeEntry.{TreeEntry}
 use Rattle.model.specs.Lists.{over}
-use Rattle.tree_fields.specs.Fields.{level, address, mark, cost, markOf, costOf, levelsOf, Places}
+use Rattle.tree_put.specs.Fields.{level, address, mark, cost, markOf, costOf, levelsOf, Places}
 use Rattle.tree_fields.specs.Solved.{Held}
 
 -- more room does no harm

@@ -24,9 +24,9 @@ use Rattle.reaches.specs.Reaches.{codeAt}
 use Rattle.vspt.specs.Tree.{codesFrom, WorkedOut}
 use Rattle.vspt.proofs.Filled.{level-long, codes-long, end-nodes}
 use Rattle.vspt.proofs.Known.{reach-back}
-use Rattle.tree_fields.specs.Fields.{markIf, level, address, mark, cost, markOf, costOf, levelsAt, levelsOf}
+use Rattle.tree_put.specs.Fields.{markIf, level, address, mark, cost, markOf, costOf, levelsAt, levelsOf}
+use Rattle.tree_put.proofs.Fields.{map-same}
 use Rattle.tree_fields.specs.Solved.{Held}
-use Rattle.tree_fields.proofs.Fields.{map-same}
 
 -- ---- lists over lists
 

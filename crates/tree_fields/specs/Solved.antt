@@ -14,8 +14,8 @@ use Rattle.model.specs.Request.{Search}
 use Rattle.model.specs.Tree.{tree}
 use Rattle.request.specs.declared.Query.{Query}
 use Rattle.request.specs.Query.{searchFor, inRound, roundFor}
+use Rattle.tree_put.specs.Fields.{level, address, mark, cost, markOf, costOf, levelsOf, Places}
 use Rattle.tree_fields.specs.declared.Solved.{Solved}
-use Rattle.tree_fields.specs.Fields.{level, address, mark, cost, markOf, costOf, levelsOf, Places}
 
 -- what a search's tree is answered with by its capacity; and a query's, in the round that applies
 abbrev pub treeOutcome : Round → Search → ℕ → Outcome TreeEntry

@@ -1,9 +1,4 @@
-// A request's tree in numbers: every check before 34, the tree worked out in the round that applies, and 34. `put` writes it field by field over the
-// start of buffers.
-use crate::put::put_addresses;
-use crate::put::put_costs;
-use crate::put::put_levels;
-use crate::put::put_marks;
+// A request's tree in numbers: every check before 34, the tree worked out in the round that applies, and 34; and its fields in four lent buffers.
 use model::DomainIndex;
 use model::Limits;
 use model::NodeAddress;
@@ -14,6 +9,10 @@ use records::layout::first_version;
 use request::Query;
 use request::check_request;
 use rounds::settle;
+use tree_put::put_addresses;
+use tree_put::put_costs;
+use tree_put::put_levels;
+use tree_put::put_marks;
 ghost use mathlib.Core.Path.{_≡_};
 ghost use Prim.Native.Nat.{min};
 ghost use lib.ListN.{length};
@@ -22,8 +21,6 @@ ghost use Rattle.model.specs.Calls.{buildTree};
 ghost use Rattle.request.specs.Checked.{requestOf};
 ghost use Rattle.request.specs.Query.{Ready};
 ghost use Rattle.tree_fields.specs.Solved.{treeFor, SolvedBy, least4, TreeIn};
-
-pub mod put;
 
 // A tree in numbers: the answer, how many entries are to be written and how many places they have; nothing on a refusal.
 pub struct Solved {

@@ -7,10 +7,6 @@ use Rattle.model.specs.Lists.{over}
 use borrow.Author.Needs.{needs}
 use Rattle.paths.proofs.first.Statement.{statement}
 use Rattle.paths.proofs.first.Tie as tie
-use Rattle.paths.proofs.first.Reads as reads
-use Rattle.paths.proofs.first.Lts as lts
-use Rattle.paths.proofs.put_addresses.Reads as put-addresses-reads
-use Rattle.paths.proofs.route.first_route.Reads as first-route-reads
 
 first-route-requires : tie.Need-first-route-requires
 first-route-requires c κs = search needs

@@ -7,10 +7,6 @@ use Rattle.model.specs.Lists.{over}
 use borrow.Author.Needs.{needs}
 use Rattle.paths.proofs.next.Statement.{statement}
 use Rattle.paths.proofs.next.Tie as tie
-use Rattle.paths.proofs.next.Reads as reads
-use Rattle.paths.proofs.next.Lts as lts
-use Rattle.paths.proofs.put_addresses.Reads as put-addresses-reads
-use Rattle.paths.proofs.route.next_route.Reads as next-route-reads
 
 next-route-requires : tie.Need-next-route-requires
 next-route-requires c κs = search needs

@@ -10,7 +10,7 @@ use Rattle.model.specs.Calls.{first, next}
 use Rattle.model.specs.Series.{callOutcome}
 use Rattle.path_answers.specs.declared.Routed.{Routed}
 use Rattle.path_answers.specs.Routed.{RoutedBy}
-use Rattle.series.specs.Calls.{kindOf}
+use Rattle.series_form.specs.Calls.{kindOf}
 use Rattle.series.proofs.calls.call.Statement.{statement}
 use Rattle.series.proofs.calls.call.Tie as tie
 

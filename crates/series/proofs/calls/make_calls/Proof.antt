@@ -1,18 +1,15 @@
 -- `calls::make_calls` meets its contract. The loop's invariant: what the calls made left, with the replies to those still to make, are all the replies (`Progress`).
 -- The measure is how many calls are left.
-use Prim.Native.Nat.{ℕ, _+_, _*_, _-_, _≤_, _<_}
-use mathlib.Core.Path.{_≡_, refl, sym, ap, subst, _∙_}
-use mathlib.Core.List.{List, []}
+use Prim.Native.Nat.{_+_, _*_, _-_, _≤_, _<_}
+use mathlib.Core.Path.{_≡_, refl, sym, ap, _∙_}
 use mathlib.Core.Logic.{⊎-elim}
 use native.Mathlib.Omega.{arith}
 use borrow.Author.Needs.{needs}
 use denote.Ref.{now}
 use lib.ListN.{length, getD, take}
 use lib.Seq.{paste}
-use Rattle.model.specs.Answers.{numbersOfPath}
 use Rattle.request.specs.Checked.{requestOf}
-use Rattle.path_answers.specs.Numbers.{fiveOf}
-use Rattle.series.proofs.Forms.{Formed, formed}
+use Rattle.series_form.proofs.Forms.{Formed, formed}
 use Rattle.series.proofs.Steps.{Progress, begin, five-long, keptAfter, kept-new, kept-old, room-here, numbers-here, turn, done}
 use Rattle.series.proofs.calls.make_calls.Statement.{statement}
 use Rattle.series.proofs.calls.make_calls.Tie as tie
