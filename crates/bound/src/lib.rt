@@ -1,12 +1,10 @@
-// A total as a float, the nearest one; a total and the bound; and whether the source's number in a tree stands for an admissible path.
+// A total as a float, the nearest one; and a total and the bound.
 use model::Limits;
-use reaches::UNREACHABLE;
 use std::num::nearest_u32_to_f32;
 ghost use mathlib.Core.Path.{_≡_};
 ghost use mathlib.Core.Bool.{true};
 ghost use Rattle.model.specs.Floats.{inRange, floatOf};
 ghost use Rattle.model.specs.Path.{keepsBound};
-ghost use Rattle.bound.specs.Kept.{keptBy};
 
 // The total as a 32-bit float, for whoever asked: nothing is compared with it, since it may lie on either side of the total.
 pub fn total_float(total: u32) -> f32
@@ -24,15 +22,4 @@ pub fn keeps_bound(limits: Limits, total: u32) -> bool
         return true;
     }
     (total as f64) <= (limits.bound as f64)
-}
-
-// The source reaches the destination, and its least cost keeps the bound.
-pub fn admissible(limits: Limits, here: u32) -> bool
-    requires { ⌜ (limits .bounded ≡ true → inRange (limits .bound) ≡ true) ⌝ }
-    ensures { λ r. ⌜ r ≡ keptBy limits here ⌝ }
-{
-    if here == UNREACHABLE {
-        return false;
-    }
-    keeps_bound(limits, here)
 }

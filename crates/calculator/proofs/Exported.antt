@@ -2,7 +2,6 @@
 use Prim.Native.Nat.{ℕ}
 use mathlib.Core.Path.{_≡_, ap, _∙_}
 use mathlib.Core.List.{List}
-use lib.ListN.{length}
 use Rattle.model.specs.declared.PathAnswer.{PathAnswer}
 use Rattle.model.specs.declared.ReadAnswer.{ReadAnswer}
 use Rattle.model.specs.declared.TreeAnswer.{TreeAnswer}
@@ -10,15 +9,15 @@ use Rattle.model.specs.declared.TreeEntry.{TreeEntry}
 use Rattle.model.specs.Lists.{over}
 use Rattle.model.specs.Answers.{Numbers, numbersOfPath, numbersOfRead, numbersOfTree}
 use Rattle.model.specs.Calls.{Outcome}
-use Rattle.domain_list.specs.ReadInclude.{ReadIs}
-use Rattle.tree_fields.specs.Solved.{TreeIn}
+use Rattle.list_reader.specs.ReadInclude.{ReadIs}
+use Rattle.tree_fields.specs.TreeResult.{TreeIn}
 use Rattle.pcep_model.specs.declared.PcrepAnswer.{PcrepAnswer}
 use Rattle.pcep_model.specs.declared.PcreqAnswer.{PcreqAnswer}
 use Rattle.pcep_model.specs.Pcreq.{numbersOfPcreq}
 use Rattle.pcep_model.specs.Pcrep.{numbersOfPcrep}
-use Rattle.pcreq.specs.Reading as Pcreq
-use Rattle.pcrep_reader.specs.Reading as Pcrep
-use Rattle.pcreq_calls.specs.Through.{PathIn}
+use Rattle.pcep_request_reader.specs.Reading as Pcreq
+use Rattle.pcep_reply_reader.specs.Reading as Pcrep
+use Rattle.pcep_request_calls.specs.Through.{PathIn}
 use Rattle.calculator.specs.Exports.{ReadExport, WriteExport, TreeExport, PathExport, PcreqExport, PcrepExport}
 
 -- the answer's numbers are told and stored, and are the outcome's

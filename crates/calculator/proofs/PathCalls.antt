@@ -8,8 +8,8 @@ use Rattle.model.specs.Lists.{over}
 use Rattle.model.specs.Request.{Request}
 use Rattle.model.specs.Answers.{Numbers, numbersOfPath}
 use Rattle.model.specs.Calls.{Outcome}
-use Rattle.series.specs.declared.SeriesAnswer.{SeriesAnswer}
-use Rattle.series.specs.Runs.{numberOfSeries, RunIs}
+use Rattle.path_series.specs.declared.SeriesAnswer.{SeriesAnswer}
+use Rattle.path_series.specs.Runs.{numberOfSeries, RunIs}
 use Rattle.calculator.specs.Exports.{PathExport, SeriesExport}
 
 -- ---- the limits are those that the call was given

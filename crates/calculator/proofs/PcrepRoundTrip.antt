@@ -2,7 +2,7 @@
 -- the fields, the addresses and the METRICs that were given, bit for bit.
 use Prim.Native.Nat.{ℕ, _≤_}
 use native.Mathlib.Omega.{arith}
-use mathlib.Core.Path.{_≡_, refl, sym, ap, ap₂, _∙_}
+use mathlib.Core.Path.{_≡_, refl, ap, ap₂, _∙_}
 use mathlib.Core.Bool.{Bool, true, false, _||_}
 use mathlib.Core.List.{List, [], _∷_, map}
 use lib.ListN.{length, take}
@@ -13,7 +13,7 @@ use Rattle.model.specs.declared.WriteAnswer.the-variants.{Written}
 use Rattle.model.specs.Lists.{any, over}
 use Rattle.model.specs.Verdict.{refuseIf, _andThen_}
 use Rattle.model.specs.Answers.{Numbers, numbersOfWrite}
-use Rattle.model.specs.Calls.{Outcome, answerWrite}
+use Rattle.model.specs.Calls.{answerWrite}
 use Rattle.laws.proofs.Lists.{over-take}
 use Rattle.pcep_model.specs.declared.PcrepAnswer.{PcrepAnswer}
 use Rattle.pcep_model.specs.declared.PcrepAnswer.the-variants as Answer
@@ -21,9 +21,10 @@ use Rattle.pcep_model.specs.Metrics.{Metric, outOfRange}
 use Rattle.pcep_model.specs.Pcrep.{Reply, Reading, writtenPcrep, writeVerdict, writePcrep, readPcrep, numbersOfPcrep}
 use Rattle.pcep_laws.proofs.PcrepFits.{Fits}
 use Rattle.pcep_laws.proofs.PcrepReadsBack.{givenFields, givenAddresses, pcrep-reads-back}
-use Rattle.pcep_metrics.specs.Along.{least3, kindOf, flagsOf, valueOf}
-use Rattle.pcrep_writer.specs.Writing.{WrittenReply}
-use Rattle.pcrep_reader.specs.Reading.{reading, ReadBy}
+use Rattle.buffers.specs.Capacity.{least3}
+use Rattle.pcep_metrics.specs.Along.{kindOf, flagsOf, valueOf}
+use Rattle.pcep_reply_writer.specs.Writing.{WrittenReply}
+use Rattle.pcep_reply_reader.specs.Reading.{reading, ReadBy}
 
 -- the second of the other numbers
 second : List ℕ → ℕ

@@ -16,7 +16,8 @@ use Rattle.laws.proofs.Lists.{over-take}
 use Rattle.laws.proofs.Stops.{stops-domains, stops-marks, Accepts, accepts}
 use Rattle.laws.proofs.RoundTrip.{Wrote, wrote, read-again}
 use Rattle.list_writer.specs.Writing.{WrittenBy}
-use Rattle.domain_list.specs.ReadInclude.{least3, ReadIs}
+use Rattle.buffers.specs.Capacity.{least3}
+use Rattle.list_reader.specs.ReadInclude.{ReadIs}
 
 -- what comes back: how many domains, and what stands in each buffer
 pub record ReadBack (indexes marks nodes ds ms ns : List ℕ) (answer : ReadAnswer) (ds′ ms′ ns′ : List ℕ) : Type 0 where

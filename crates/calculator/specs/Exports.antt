@@ -5,17 +5,16 @@ use Prim.Native.Nat.{ℕ}
 use lib.ListN.{length}
 use Rattle.pcep_model.specs.Pcreq.{readPcreq}
 use Rattle.pcep_metrics.specs.Along.{kindOf, flagsOf, valueOf}
-use Rattle.pcep_metrics.specs.Along.{least3 as metricRoom}
-use Rattle.pcrep_reader.specs.Reading.{reading}
+use Rattle.buffers.specs.Capacity.{least3}
+use Rattle.pcep_reply_reader.specs.Reading.{reading}
 use Rattle.model.specs.Lists.{over}
 use Rattle.model.specs.Sequence.{Stop}
 use Rattle.model.specs.Request.{Request}
 use Rattle.model.specs.declared.TreeEntry.{TreeEntry}
 use Rattle.model.specs.Calls.{Outcome, readInclude, pinMark, pinNode}
-use Rattle.domain_list.specs.ReadInclude.{least3}
-use Rattle.tree_put.specs.Fields.{level, address, mark, cost}
-use Rattle.series_form.specs.Calls.{malformed}
-use Rattle.series.specs.Runs.{numberOfSeries, answerIf, LeftIf}
+use Rattle.tree_fields.specs.Fields.{level, address, mark, cost}
+use Rattle.path_series.specs.Calls.{malformed}
+use Rattle.path_series.specs.Runs.{numberOfSeries, answerIf, LeftIf}
 
 -- the number returned, the other numbers stored, and each buffer with its part of the sequence at its start
 pub record ReadExport (profile : List ℕ) (ingress : ℕ) (list domains marks nodes : List ℕ) (r : ℕ) (numbers domains′ marks′ nodes′ : List ℕ) : Type 0 where
@@ -53,11 +52,11 @@ pub record SeriesExport (request : Request) (kinds sizes buffers numbers : List 
 
 -- the number returned, the other numbers stored, and each METRIC buffer with its field at its start
 pub record PcreqExport (s kinds flags values : List ℕ) (r : ℕ) (numbers kinds′ flags′ values′ : List ℕ) : Type 0 where
-  pub answer : r ≡ (readPcreq s (metricRoom kinds flags values)) .numbers .answer
-  pub others : numbers ≡ (readPcreq s (metricRoom kinds flags values)) .numbers .others
-  pub in-kinds : kinds′ ≡ over (map kindOf ((readPcreq s (metricRoom kinds flags values)) .written)) kinds
-  pub in-flags : flags′ ≡ over (map flagsOf ((readPcreq s (metricRoom kinds flags values)) .written)) flags
-  pub in-values : values′ ≡ over (map valueOf ((readPcreq s (metricRoom kinds flags values)) .written)) values
+  pub answer : r ≡ (readPcreq s (least3 kinds flags values)) .numbers .answer
+  pub others : numbers ≡ (readPcreq s (least3 kinds flags values)) .numbers .others
+  pub in-kinds : kinds′ ≡ over (map kindOf ((readPcreq s (least3 kinds flags values)) .written)) kinds
+  pub in-flags : flags′ ≡ over (map flagsOf ((readPcreq s (least3 kinds flags values)) .written)) flags
+  pub in-values : values′ ≡ over (map valueOf ((readPcreq s (least3 kinds flags values)) .written)) values
 
 -- and the addresses at the start of theirs
 pub record PcrepExport (s addresses kinds flags values : List ℕ) (r : ℕ) (numbers addresses′ kinds′ flags′ values′ : List ℕ) : Type 0 where

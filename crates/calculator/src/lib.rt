@@ -2,24 +2,24 @@
 use call_numbers::tell_read;
 use call_numbers::tell_tree;
 use call_numbers::tell_write;
-use domain_list::read::read_include;
+use list_reader::read::read_include;
 use list_writer::writer::write_list;
 use model::DomainIndex;
 use model::NodeAddress;
 use model::ProfileAnswer;
-use profile::check_profile;
+use profile_check::check_profile;
 use request::limits::limits_of;
 use tree_fields::tree_numbers;
 ghost use mathlib.Core.Path.{_≡_};
 ghost use lib.ListN.{length};
 ghost use Rattle.model.specs.Calls.{checkProfile, writeList, buildTree};
-ghost use Rattle.tree_fields.specs.Solved.{least4};
+ghost use Rattle.buffers.specs.Capacity.{least4};
 ghost use Rattle.calculator.specs.Exports.{ReadExport, WriteExport, TreeExport};
 ghost use Rattle.request.specs.Bits.{limitsOfBits};
-ghost use Rattle.request.specs.Checked.{requestOf};
+ghost use Rattle.request.specs.CheckedRequest.{requestOf};
 
 pub mod messages;
-pub mod path_calls;
+pub mod paths;
 
 // numbers: place
 #[no_mangle]

@@ -5,17 +5,17 @@ use call_numbers::tell_tree;
 use call_numbers::tell_write;
 use model::DomainIndex;
 use path_answers::numbers::tell;
-use pcrep_reader::read_pcrep;
-use pcrep_writer::write_pcrep;
-use pcreq::read_pcreq;
-use pcreq_calls::pcreq_first;
-use pcreq_calls::pcreq_next;
-use pcreq_calls::pcreq_tree;
+use pcep_reply_reader::read_pcrep;
+use pcep_reply_writer::write_pcrep;
+use pcep_request_calls::pcreq_first;
+use pcep_request_calls::pcreq_next;
+use pcep_request_calls::pcreq_tree;
+use pcep_request_reader::read_pcreq;
 ghost use lib.ListN.{length};
 ghost use Rattle.pcep_model.specs.Pcreq.{pcreqTree, pcreqFirst, pcreqNext};
 ghost use Rattle.pcep_model.specs.Pcrep.{apart, writePcrep};
-ghost use Rattle.pcrep_writer.specs.Writing.{replyOf};
-ghost use Rattle.tree_fields.specs.Solved.{least4};
+ghost use Rattle.pcep_reply_writer.specs.Writing.{replyOf};
+ghost use Rattle.buffers.specs.Capacity.{least4};
 ghost use Rattle.calculator.specs.Exports.{WriteExport, TreeExport, PathExport, PcreqExport, PcrepExport};
 
 // numbers: place, request-ID, RP's flags, source, destination, bits of the bandwidth, METRICs, then offset and length of each list

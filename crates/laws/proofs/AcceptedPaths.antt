@@ -10,7 +10,7 @@ use Rattle.model.specs.declared.Verdict.the-variants.{Pass}
 use Rattle.model.specs.Lists.{countFrom}
 use Rattle.model.specs.Profile.{Layout, profileVerdict, hopCount, hopAt, hops}
 use Rattle.model.specs.Sequence.{Stop}
-use Rattle.model.specs.Request.{Request, layoutOf, Accepted, searchIn}
+use Rattle.model.specs.Request.{Request, layoutFor, Accepted, searchIn}
 use Rattle.model.specs.Rounds.{roundOf, searchOf}
 use Rattle.laws.proofs.Lists.{map-mem, countFrom-mem}
 use Rattle.laws.proofs.Accepted.{accepted}
@@ -30,18 +30,18 @@ accepted-costs L s e h m =
 pub accepted-paths-in
     : (x : Round) (r : Request) (sequence : List Stop)
     → Accepted r sequence
-    → SortedHops (hops (layoutOf r) (r .profile))
+    → SortedHops (hops (layoutFor r) (r .profile))
     → ThePaths (searchIn x r sequence)
 unfolding searchIn
 accepted-paths-in x r sequence e s =
     paths-are-the-paths (searchIn x r sequence) s ((accepted-length r sequence e) .1)
-    (accepted-costs (layoutOf r) (r .profile) (accepted-profile r sequence e))
+    (accepted-costs (layoutFor r) (r .profile) (accepted-profile r sequence e))
 
 -- and so in the one that applies
 pub accepted-paths
     : (r : Request) (sequence : List Stop)
     → Accepted r sequence
-    → SortedHops (hops (layoutOf r) (r .profile))
+    → SortedHops (hops (layoutFor r) (r .profile))
     → ThePaths (searchOf r sequence)
 unfolding searchOf
 accepted-paths r sequence = accepted-paths-in (roundOf r sequence) r sequence

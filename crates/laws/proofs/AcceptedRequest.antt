@@ -16,7 +16,7 @@ use Rattle.model.specs.Profile.{domainCount, profileVerdict, domains}
 use Rattle.model.specs.Subobject.{formVerdict}
 use Rattle.model.specs.Floats.{inRange}
 use Rattle.model.specs.Sequence.{Stop, Reading, good, meaning}
-use Rattle.model.specs.Request.{Request, layoutOf, limitsVerdict, provided, requestVerdict, sequenceOf, Accepted}
+use Rattle.model.specs.Request.{Request, layoutFor, limitsVerdict, provided, requestVerdict, sequenceOf, Accepted}
 use Rattle.laws.proofs.Tests.{and-false}
 use Rattle.laws.proofs.Turns.{refuseIf-pass, andThen-refuseIf, andThen-pass}
 use Rattle.laws.proofs.ReadingKeeps.{refused-good, meaning-keeps}
@@ -35,7 +35,7 @@ accepted-meaning r sequence e = (provided-good (requestVerdict r) (meaning (doma
 
 -- what each check before the meaning says
 pub record PassedRequest (r : Request) : Type 0 where
-  pub profile : profileVerdict (layoutOf r) (r .profile) ≡ Pass
+  pub profile : profileVerdict (layoutFor r) (r .profile) ≡ Pass
   pub ingress : r .ingress < domainCount (r .profile)
   pub bandwidth : inRange (r .limits .bandwidth) ≡ true
   pub bound : r .limits .bounded ≡ true → inRange (r .limits .bound) ≡ true
@@ -54,7 +54,7 @@ passed-request r e =
     let three = andThen-refuseIf _ (ltb 1024 (length (r .include))) 22 0 .0 (four .0) in
     let two = andThen-pass _ (limitsVerdict l) .0 (three .0) in
     let floats = andThen-refuseIf _ (l .bounded && not (inRange (l .bound))) 21 1 .0 (two .1) in
-    let one = andThen-refuseIf (profileVerdict (layoutOf r) (r .profile)) (leb (domainCount (r .profile)) (r .ingress)) 20 0 .0 (two .0) in
+    let one = andThen-refuseIf (profileVerdict (layoutFor r) (r .profile)) (leb (domainCount (r .profile)) (r .ingress)) 20 0 .0 (two .0) in
     record {
       profile = one .0;
       ingress = leb-false _ _ (one .1);
@@ -66,7 +66,7 @@ passed-request r e =
       exclude-form = six .1;
     }
 
-pub accepted-profile : (r : Request) (sequence : List Stop) → Accepted r sequence → profileVerdict (layoutOf r) (r .profile) ≡ Pass
+pub accepted-profile : (r : Request) (sequence : List Stop) → Accepted r sequence → profileVerdict (layoutFor r) (r .profile) ≡ Pass
 accepted-profile r sequence e = passed-request r (accepted-verdict r sequence e) .profile
 
 -- ---- a sequence has 1 to 16 domains

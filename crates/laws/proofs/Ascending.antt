@@ -2,14 +2,15 @@
 -- stands above the element at an index: exactly the elements after it. By recursion on the list.
 use mathlib.Core.Path.{_≡_, refl}
 use mathlib.Core.Logic.{_⊎_, inl, inr, ⊎-elim}
-use mathlib.Core.Bool.{Bool, true, false}
+use mathlib.Core.Bool.{Bool, true}
 use mathlib.Core.List.{List, [], _∷_, map, List·Memᴰ, List·Memᴰ·head, List·Memᴰ·tail, List·Memᴰ·cases-cons}
 use Prim.Native.Nat.{ℕ, zero, suc, _<_}
 use native.Mathlib.Nat.{le-of-suc-le-suc, not-suc-le-zero}
 use lib.ListN.{length, getD, drop}
 use Rattle.model.specs.Lists.{keepIf, keep}
 use Rattle.laws.proofs.Tests.{refuted}
-use Rattle.laws.proofs.Lists.{keep-all, mem-map, Sorted}
+use Rattle.laws.specs.Sorted.{Sorted}
+use Rattle.laws.proofs.Lists.{keep-all, mem-map}
 
 module _ {A : Type 0} where
   pub getD-mem : (xs : List A) (i : ℕ) (d : A) → i < length xs → List·Memᴰ (getD xs i d) xs

@@ -1,15 +1,15 @@
--- The order `below` on lists of numbers, compared from the left: it is a strict and total order. By recursion along both lists.
-use mathlib.Core.Path.{_≡_, refl, sym, subst, _∙_, ap}
+-- The order `below` on lists of numbers, compared from the left: it is a strict order. By recursion along both lists.
+use mathlib.Core.Path.{_≡_, refl, sym, subst, _∙_}
 use mathlib.Core.Logic.{_⊎_, inl, inr, ⊎-elim}
-use mathlib.Core.Bool.{Bool, true, false, _&&_, _||_, true≢false, false≢true}
+use mathlib.Core.Bool.{true, false, _&&_, false≢true}
 use mathlib.Core.List.{List, [], _∷_}
 use Prim.Native.Nat.{ℕ, _<_}
 use native.Mathlib.Nat.{lt-irrefl}
 use native.Mathlib.Omega.{arith}
 use lib.Dec.{eqb, ltb}
-use borrow.Author.Tests.{ltb-true, ltb-false, eqb-true, eqb-false, lt-ltb, eq-eqb}
+use borrow.Author.Tests.{ltb-true, eqb-true, lt-ltb, eq-eqb}
 use Rattle.model.specs.Lists.{below}
-use Rattle.laws.proofs.Tests.{and-both, both-and, and-false, or-either, or-left, or-right, or-neither}
+use Rattle.laws.proofs.Tests.{and-both, both-and, or-either, or-left, or-right}
 
 pub below-cons : (x y : ℕ) (xs ys : List ℕ) → below (x ∷ xs) (y ∷ ys) ≡ true → (x < y) ⊎ ((x ≡ y) × (below xs ys ≡ true))
 unfolding below
@@ -53,18 +53,3 @@ below-trans (x ∷ xs) (y ∷ ys) (z ∷ zs) p q =
 
 pub below-asym : (xs ys : List ℕ) → below xs ys ≡ true → below ys xs ≡ true → ⊥
 below-asym xs ys p q = below-irrefl xs (below-trans xs ys xs p q)
-
--- two lists neither of which is below the other are the same
-pub below-total : (xs ys : List ℕ) → below xs ys ≡ false → below ys xs ≡ false → xs ≡ ys
-unfolding below
-below-total [] [] p q = refl
-below-total [] (y ∷ ys) p q = absurd (true≢false p)
-below-total (x ∷ xs) [] p q = absurd (true≢false q)
-below-total (x ∷ xs) (y ∷ ys) p q =
-    let a = or-neither (ltb x y) (eqb x y && below xs ys) p in
-    let b = or-neither (ltb y x) (eqb y x && below ys xs) q in
-    let h = ltb-false x y (a .0) in
-    let k = ltb-false y x (b .0) in
-    let e : x ≡ y = omega arith in
-    let r = below-total xs ys (and-false (eqb x y) (below xs ys) (a .1) (eq-eqb x y e)) (and-false (eqb y x) (below ys xs) (b .1) (eq-eqb y x (sym e))) in
-    λ i. e i ∷ r i

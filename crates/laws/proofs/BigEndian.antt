@@ -6,14 +6,14 @@ use native.Mathlib.Omega.{arith}
 use mathlib.Core.Path.{_≡_, refl, sym, ap, ap₂, _∙_}
 use mathlib.Core.Logic.{⊎-elim}
 use mathlib.Core.Bool.{Bool, true, false, _&&_, _||_}
-use mathlib.Core.List.{List, [], _∷_, _++_}
+use mathlib.Core.List.{List, [], _∷_}
 use lib.ListN.{length, getD, take, drop, length-drop}
 use lib.Seq.{getD-drop}
 use lib.Pow.{pow-add}
 use lib.Dec.{eqb, ltb}
 use borrow.Author.Tests.{ltb-true, ltb-false, lt-ltb, le-ltb, eq-eqb, ne-eqb}
 use Rattle.laws.proofs.Tests.{decide}
-use Rattle.model.specs.Lists.{below, same, sum}
+use Rattle.model.specs.Lists.{below, sum}
 use Rattle.model.specs.Bytes.{number, part}
 
 -- every element is a byte
@@ -117,13 +117,3 @@ regroup : (l q r s u : Bool) → (l || (q && (r || (s && u)))) ≡ (l || (q && r
 regroup true q r s u = refl
 regroup false true r s u = refl
 regroup false false r s u = refl
-
--- lists that begin with equally long parts compare by these first
-pub below-append : (a b c d : List ℕ) → length a ≡ length c → below (a ++ b) (c ++ d) ≡ below a c || (same a c && below b d)
-unfolding below same
-below-append [] b [] d e = refl
-below-append [] b (y ∷ c) d e = absurd (omega arith)
-below-append (x ∷ a) b [] d e = absurd (omega arith)
-below-append (x ∷ a) b (y ∷ c) d e =
-    ap (λ (r : Bool). ltb x y || (eqb x y && r)) (below-append a b c d (omega arith))
-    ∙ regroup (ltb x y) (eqb x y) (below a c) (same a c) (below b d)

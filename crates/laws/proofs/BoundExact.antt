@@ -154,13 +154,6 @@ leb-same a b c d p q = go (leb c d) refl
     go true e = le-leb a b (q (leb-true c d e))
     go false e = lt-leb a b (lt-of-not-le (λ h. not-le-of-lt (leb-false c d e) (p h)))
 
-ltb-not : (a b : ℕ) → ltb a b ≡ not (leb b a)
-ltb-not a b = go (leb b a) refl
-  where
-    go : (t : Bool) → leb b a ≡ t → ltb a b ≡ not t
-    go true e = le-ltb a b (leb-true b a e)
-    go false e = lt-ltb a b (leb-false b a e)
-
 below-or-level : (a b : ℕ) → (ltb a b || (eqb a b && true)) ≡ leb a b
 below-or-level a b = go (ltb a b) (eqb a b) refl refl
   where
@@ -180,22 +173,12 @@ le-cross : (m n : ℕ) (e d : ℤ) → le (fin false m e) (fin false n d) ≡ le
 unfolding le
 le-cross m n e d = below-or-level (m * up e * down d) (n * up d * down e)
 
-lt-cross : (m n : ℕ) (e d : ℤ) → lt (fin false m e) (fin false n d) ≡ not (leb (n * up d * down e) (m * up e * down d))
-unfolding lt
-lt-cross m n e d = ltb-not (m * up e * down d) (n * up d * down e)
-
 -- the machine's `<=` and `<` are those of the exact values
 pub units-order : (x y : Float) → T (fits binary32 x) → T (fits binary32 y) → inRange x ≡ true → inRange y ≡ true → le x y ≡ leb (units x) (units y)
 units-order x y f g r s =
     let p = units-exact x f r in
     let q = units-exact y g s in
     ap₂ le (p .2) (q .2) ∙ le-cross (p .0) (q .0) (p .1) (q .1) ∙ cross (p .0) (q .0) (p .1) (q .1) (units x) (units y) (2 ^ 149) (pow-pos 149) (sym (p .3)) (sym (q .3))
-
-pub units-strict-order : (x y : Float) → T (fits binary32 x) → T (fits binary32 y) → inRange x ≡ true → inRange y ≡ true → lt x y ≡ ltb (units x) (units y)
-units-strict-order x y f g r s =
-    let p = units-exact x f r in
-    let q = units-exact y g s in
-    ap₂ lt (p .2) (q .2) ∙ lt-cross (p .0) (q .0) (p .1) (q .1) ∙ ap not (cross (q .0) (p .0) (q .1) (p .1) (units y) (units x) (2 ^ 149) (pow-pos 149) (sym (q .3)) (sym (p .3))) ∙ sym (ltb-not (units x) (units y))
 
 -- the machine's test that a bandwidth is at least the one asked for
 pub bandwidth-exact : (x y : Float) → T (fits binary32 x) → T (fits binary32 y) → inRange x ≡ true → inRange y ≡ true → le x y ≡ atLeast x y

@@ -18,7 +18,8 @@ use Rattle.model.specs.Path.{boundKept, keepsBound, Route, routesIf, paths, adm
 use Rattle.laws.proofs.Tests.{decide, clash}
 use Rattle.laws.proofs.Lists.{keep-mem, mem-keep, keep-agree, keep-none, all-mem, mem-all}
 use Rattle.laws.proofs.Picks.{keep-keep}
-use Rattle.laws.proofs.Reach.{leastFrom, leastFrom-reachable, leastFrom-unreached, leastFrom-some, leastFrom-at-most}
+use Rattle.laws.specs.Reach.{leastFrom}
+use Rattle.laws.proofs.Reach.{leastFrom-reachable, leastFrom-unreached, leastFrom-some, leastFrom-at-most}
 
 -- the route has the least total of the list
 abbrev pub atLeastTotal : List Route → Route → Bool

@@ -7,7 +7,7 @@ use Prim.Native.Nat.{ℕ, suc, _≤_, _<_}
 use lib.ListN.{length}
 use Rattle.model.specs.Profile.{hops}
 use Rattle.model.specs.Sequence.{Stop, Reading, refused, good}
-use Rattle.model.specs.Request.{Request, layoutOf, Accepted, sequenceOf, searchIn}
+use Rattle.model.specs.Request.{Request, layoutFor, Accepted, sequenceOf, searchIn}
 use Rattle.model.specs.Path.{legs, paths, shortestPaths}
 use Rattle.model.specs.Rounds.{roundOf, searchOf}
 use Rattle.model.specs.Calls.{pathLength, first, next}
@@ -38,8 +38,8 @@ pub use Rattle.laws.proofs.ReadsBack.{reads-back, written-short}
 pub use Rattle.laws.proofs.Lacking.{lacking-clear, lacking-desired, lacking-inserted, clear-inserted}
 
 module _ (r : Request) (sequence : List Stop) (bytes : Bytes (r .profile)) (yes : Accepted r sequence) where
-  sorted : SortedHops (hops (layoutOf r) (r .profile))
-  sorted = hops-sorted (layoutOf r) (r .profile) bytes (accepted (layoutOf r) (r .profile) (accepted-profile r sequence yes))
+  sorted : SortedHops (hops (layoutFor r) (r .profile))
+  sorted = hops-sorted (layoutFor r) (r .profile) bytes (accepted (layoutFor r) (r .profile) (accepted-profile r sequence yes))
 
   ascending : Ascending (paths (searchOf r sequence))
   unfolding searchOf searchIn

@@ -1,50 +1,15 @@
--- `classes-apart`: in an accepted profile of class 0 every AS and every node lies in the reserved ranges; of class 1, none does. And what it means to lie in a table
--- of ranges. From the check of each record.
+-- `classes-apart`: in an accepted profile of class 0 every AS and every node lies in the reserved ranges; of class 1, none does. From the check of each record.
 use Prim.Native.Nat.{ℕ, zero, suc, _≤_, _<_}
 use native.Mathlib.Omega.{arith}
 use mathlib.Core.Path.{_≡_, refl, subst}
-use mathlib.Core.Logic.{_↔_, _⊎_, inl, inr, ⊎-elim}
-use mathlib.Core.Bool.{Bool, true, false, _&&_}
-use mathlib.Core.List.{List, List·Memᴰ}
-use lib.Dec.{leb}
-use borrow.Author.Tests.{leb-true, leb-false, le-leb, not-false}
+use mathlib.Core.Logic.{_⊎_, inl, inr}
+use mathlib.Core.Bool.{Bool, true, false}
+use mathlib.Core.List.{List}
+use borrow.Author.Tests.{not-false}
 use Rattle.model.specs.declared.Verdict.the-variants.{Pass}
 use Rattle.model.specs.Reserved.{Range, asRanges, addressRanges, inRanges, misplaced}
 use Rattle.model.specs.Profile.{Layout, classOf, domainCount, hopCount, domainAt, hopAt, profileVerdict}
-use Rattle.laws.proofs.Tests.{decide, and-both, both-and, and-false}
-use Rattle.laws.proofs.Lists.{any-mem, mem-any, any-false}
 use Rattle.laws.proofs.Accepted.{accepted}
-
--- ---- a table of ranges
-
-abbrev covers : ℕ → Range → Bool
-covers x r = leb (r .first) x && leb x (r .last)
-
--- a number lies in a table's ranges exactly when some range has it between its ends
-pub inside-ranges : (rs : List Range) (x : ℕ) → (inRanges rs x ≡ true) ↔ ((r : Range) × List·Memᴰ r rs × (r .first ≤ x) × (x ≤ r .last))
-unfolding inRanges
-inside-ranges rs x = (
-  λ t.
-      let f = any-mem (covers x) rs t in
-      let r = f .0 in
-      let b = and-both (leb (r .first) x) (leb x (r .last)) (f .2) in
-      (r, f .1, leb-true _ _ (b .0), leb-true _ _ (b .1)),
-  λ f. mem-any (covers x) (f .1) (both-and _ _ (le-leb _ _ (f .2)) (le-leb _ _ (f .3))),
-)
-
--- and outside exactly when it is past the end of every range whose start it has reached
-pub outside-ranges : (rs : List Range) (x : ℕ) → (inRanges rs x ≡ false) ↔ ((r : Range) → List·Memᴰ r rs → r .first ≤ x → r .last < x)
-unfolding inRanges
-outside-ranges rs x = (
-  λ f r m h. leb-false _ _ (and-false (leb (r .first) x) (leb x (r .last)) (any-false (covers x) f m) (le-leb _ _ h)),
-  λ h.
-      ⊎-elim
-      (λ (t : inRanges rs x ≡ true). let f = inside-ranges rs x .0 t in let late = h (f .0) (f .1) (f .2) in let reached = f .3 in absurd (omega arith))
-      (λ (f : inRanges rs x ≡ false). f)
-      (decide (inRanges rs x)),
-)
-
--- ---- the classes
 
 -- every AS and every node of the profile's records lies in the reserved ranges (true), or none does (false)
 pub record Reserved (L : Layout) (s : List ℕ) (inside : Bool) : Type 0 where

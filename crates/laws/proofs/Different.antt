@@ -1,5 +1,5 @@
 -- How many different numbers a list has when one more is put at its end: one more, unless it is there already.
-use mathlib.Core.Path.{_≡_, refl, sym, ap, subst, _∙_}
+use mathlib.Core.Path.{_≡_, refl, sym, ap, _∙_}
 use mathlib.Core.Logic.{⊎-elim}
 use mathlib.Core.Bool.{Bool, true, false, _||_}
 use mathlib.Core.List.{List, [], _∷_, _++_}
@@ -7,7 +7,7 @@ use Prim.Native.Nat.{ℕ, suc}
 use lib.Dec.{eqb}
 use lib.ListN.{length}
 use borrow.Author.Tests.{eqb-true, eqb-false, eq-eqb, ne-eqb}
-use Rattle.model.specs.Lists.{any, among, different, insert}
+use Rattle.model.specs.Lists.{any, among, different}
 use Rattle.laws.proofs.Tests.{decide, clash, refuted}
 use Rattle.laws.proofs.ProfileLists.{among-mem, mem-among, different-mem, mem-different, different-ascending, insert-known, length-insert-new}
 use Rattle.laws.proofs.ProfileLists.{different-snoc as different-more}

@@ -11,11 +11,12 @@ use lib.Seq.{take-all}
 use lib.Dec.{eqb}
 use borrow.Author.Tests.{ltb-false, ne-eqb}
 use Rattle.model.specs.declared.Hop.{Hop}
-use Rattle.model.specs.Lists.{keepIf, keep, insert, different}
+use Rattle.model.specs.Lists.{keepIf, keep, different}
 use Rattle.model.specs.Profile.{Layout, hopCount, hopAt, hops, between, entryNodes, crowded}
 use Rattle.laws.proofs.Tests.{decide, and-false}
-use Rattle.laws.proofs.Lists.{Sorted, keep-append, keep-mem, mem-keep, map-mem, mem-map, map-append}
-use Rattle.laws.proofs.ProfileLists.{different-mem, mem-different, different-ascending, different-snoc}
+use Rattle.laws.specs.Sorted.{Sorted}
+use Rattle.laws.proofs.Lists.{keep-append, mem-keep, mem-map}
+use Rattle.laws.proofs.ProfileLists.{mem-different, different-ascending}
 use Rattle.laws.proofs.Records.{length-hops, take-hops}
 use Rattle.laws.proofs.HopKeys.{between-both}
 use Rattle.laws.proofs.Accepted.{AcceptedProfile}
@@ -30,25 +31,9 @@ module _ (d e : ℕ) where
   unfolding entryNodes
   entryNodes-ascending hs = different-ascending (map headOf (keep (between d e) hs))
 
-  -- an entry node is the head of a hop of the pair
-  pub entryNodes-mem : (hs : List Hop) {v : ℕ} → List·Memᴰ v (entryNodes d e hs) → (h : Hop) × List·Memᴰ h hs × (between d e h ≡ true) × (v ≡ h .head .0)
-  unfolding entryNodes
-  entryNodes-mem hs m =
-      let r = map-mem headOf (keep (between d e) hs) (different-mem (map headOf (keep (between d e) hs)) m) in
-      let k = keep-mem (between d e) hs (r .1) in
-      (r .0, k .0, k .1, r .2)
-
   pub mem-entryNodes : (hs : List Hop) {h : Hop} → List·Memᴰ h hs → between d e h ≡ true → List·Memᴰ (h .head .0) (entryNodes d e hs)
   unfolding entryNodes
   mem-entryNodes hs m t = mem-different (map headOf (keep (between d e) hs)) (mem-map headOf (mem-keep (between d e) m t))
-
-  -- one more hop: of the pair, or not
-  pub entryNodes-on : (hs : List Hop) (h : Hop) → between d e h ≡ true → entryNodes d e (hs ++ (h ∷ [])) ≡ insert (h .head .0) (entryNodes d e hs)
-  unfolding entryNodes keep
-  entryNodes-on hs h t =
-      ap (λ (gs : List Hop). different (map headOf gs)) (keep-append (between d e) hs (h ∷ []) ∙ ap (λ (b : Bool). keep (between d e) hs ++ keepIf b h []) t)
-      ∙ ap different (map-append headOf (keep (between d e) hs) (h ∷ []))
-      ∙ different-snoc (map headOf (keep (between d e) hs)) (h .head .0)
 
   pub entryNodes-off : (hs : List Hop) (h : Hop) → between d e h ≡ false → entryNodes d e (hs ++ (h ∷ [])) ≡ entryNodes d e hs
   unfolding entryNodes keep

@@ -21,7 +21,8 @@ use Rattle.model.specs.Rounds.{roundOf, searchOf}
 use Rattle.model.specs.Answers.{plain4}
 use Rattle.model.specs.Calls.{Outcome, nothing, found, roomVerdict, firstOf, answerPath, pathLength, firstInto, first, greaterThan, nextInto, next}
 use Rattle.model.specs.Series.{noRoute, refusal}
-use Rattle.laws.proofs.Lists.{keep-mem, mem-keep, keep-none, Sorted, sorted-keep}
+use Rattle.laws.specs.Sorted.{Sorted}
+use Rattle.laws.proofs.Lists.{keep-mem, mem-keep, keep-none, sorted-keep}
 use Rattle.laws.proofs.Below.{below-asym}
 use Rattle.laws.proofs.Tests.{refuted}
 use Rattle.laws.proofs.Ascending.{getD-mem, sorted-least, keep-above}

@@ -4,29 +4,20 @@ use mathlib.Core.Path.{_≡_, refl, sym, subst, _∙_, ap}
 use mathlib.Core.Logic.{⊎-elim}
 use mathlib.Core.Bool.{Bool, true, false, true≢false}
 use mathlib.Core.List.{List, [], _∷_, _++_, map, head?, List·Memᴰ, List·Memᴰ·head, List·Memᴰ·tail, List·Memᴰ·cases-cons}
-use mathlib.Core.Option.{Option, none, some, Option·map, Option·none-ne-some, Option·some-injective}
-use Prim.Native.Nat.{ℕ, zero, suc, _<_}
+use mathlib.Core.Option.{Option, some, Option·map, Option·none-ne-some, Option·some-injective}
+use Prim.Native.Nat.{ℕ, _<_}
 use native.Mathlib.Nat.{eq-or-lt-of-le}
 use native.Mathlib.Omega.{arith}
-use lib.ListN.{length, getD}
 use lib.Dec.{eqb, ltb}
 use borrow.Author.Tests.{eq-eqb, ne-eqb, ltb-true, ltb-false, lt-ltb, le-ltb}
 use Rattle.model.specs.Lists.{isEmpty, keepIf, keep, each}
+use Rattle.laws.specs.Descent.{orElse, through}
 use Rattle.laws.proofs.Tests.{decide}
-use Rattle.laws.proofs.Lists.{keep-all, keep-none, Sorted}
+use Rattle.laws.specs.Sorted.{Sorted}
+use Rattle.laws.proofs.Lists.{keep-all, keep-none}
 use Rattle.laws.proofs.Picks.{each-agree}
 
 module _ {A : Type 0} where
-  -- nothing where a test fails
-  abbrev pub optionIf : Bool → Option A → Option A
-  optionIf true o = o
-  optionIf false o = none
-
-  -- the one, or the other where there is none
-  abbrev pub orElse : Option A → Option A → Option A
-  orElse (some x) o = some x
-  orElse none o = o
-
   pub head?-append : (xs ys : List A) → head? (xs ++ ys) ≡ orElse (head? xs) (head? ys)
   head?-append [] ys = refl
   head?-append (x ∷ xs) ys = refl
@@ -39,35 +30,10 @@ module _ {A : Type 0} where
   head?-some [] e = absurd (true≢false e)
   head?-some (x ∷ xs) e = (x, refl)
 
-  -- a search from the front: the first element that passes the test is the one before which none does
-  pub first-found
-      : (p : A → Bool) (xs : List A) (d : A) (j : ℕ)
-      → j < length xs
-      → ((k : ℕ) → k < j → p (getD xs k d) ≡ false)
-      → p (getD xs j d) ≡ true
-      → head? (keep p xs) ≡ some (getD xs j d)
-  unfolding keep
-  first-found p [] d j l h t = absurd (omega arith)
-  first-found p (x ∷ xs) d zero l h t = λ i. head? (keepIf (t i) x (keep p xs))
-  first-found p (x ∷ xs) d (suc j) l h t =
-      (λ i. head? (keepIf (h 0 (omega arith) i) x (keep p xs)))
-      ∙ first-found p xs d j (omega arith) (λ k b. h (suc k) (omega arith)) t
-
-  -- there is none where none passes
-  pub first-missing : (p : A → Bool) (xs : List A) (d : A) → ((k : ℕ) → k < length xs → p (getD xs k d) ≡ false) → head? (keep p xs) ≡ none
-  unfolding keep
-  first-missing p [] d h = refl
-  first-missing p (x ∷ xs) d h = (λ i. head? (keepIf (h 0 (omega arith) i) x (keep p xs))) ∙ first-missing p xs d (λ k b. h (suc k) (omega arith))
-
 module _ {A B : Type 0} where
   pub head?-map : (f : A → B) (xs : List A) → head? (map f xs) ≡ Option·map f (head? xs)
   head?-map f [] = refl
   head?-map f (x ∷ xs) = refl
-
-  -- what f gives, where there is something
-  abbrev pub through : (A → Option B) → Option A → Option B
-  through f none = none
-  through f (some x) = f x
 
   pub through-agree : (f g : A → Option B) (xs : List A) → ((x : A) → List·Memᴰ x xs → f x ≡ g x) → through f (head? xs) ≡ through g (head? xs)
   through-agree f g [] h = refl

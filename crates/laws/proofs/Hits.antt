@@ -3,7 +3,7 @@
 use mathlib.Core.Path.{_≡_, refl, sym, subst, ap, ap₂, _∙_}
 use mathlib.Core.Logic.{_⊎_, inl, inr, ⊎-elim}
 use mathlib.Core.Bool.{Bool, true, false, not, _&&_, _||_}
-use mathlib.Core.List.{List, [], _∷_, _++_, map, List·Memᴰ, List·Memᴰ·head}
+use mathlib.Core.List.{List, [], _∷_, map, List·Memᴰ, List·Memᴰ·head}
 use Prim.Native.Nat.{ℕ, zero, suc, _<_}
 use native.Mathlib.Omega.{arith}
 use lib.ListN.{length, drop}
@@ -22,8 +22,9 @@ use Rattle.laws.proofs.Tests.{or-left, or-right, clash, refuted}
 use Rattle.laws.proofs.Lists.{mem-any, countFrom-mem}
 use Rattle.laws.proofs.Picks.{each-agree}
 use Rattle.laws.proofs.Ascending.{getD-mem}
-use Rattle.laws.proofs.Suffixes.{hopsFrom-mem, ending, behind}
-use Rattle.laws.proofs.Reach.{leastFrom}
+use Rattle.laws.specs.Descent.{ending}
+use Rattle.laws.proofs.Suffixes.{hopsFrom-mem, behind}
+use Rattle.laws.specs.Reach.{leastFrom}
 use Rattle.laws.proofs.TreeLeast.{entryOf, entry-is, legs-left}
 
 -- ---- what hits a profile
@@ -101,30 +102,6 @@ module _ (ds : List Domain) (hs : List Hop) where
         (λ s t.
         or-right (any (λ (d : Domain). takesDomain d (s .names)) ds) (any (λ (h : Hop). takesEnd h (s .names)) hs)
         (mem-any (λ (h : Hop). takesEnd h (s .names)) (m .1) (takes-end (m .0) a (s .names) (m .2) t)))
-
--- ---- an exclusion of what a profile lacks
-
--- put anywhere into a list, the exclusions behind it moved on, it changes nothing of what hits
-pub lacking-one
-    : (ds : List Domain) (hs : List Hop) (xs : List Subobject) (s : Subobject) (ys moved : List Subobject)
-    → hits ds hs s ≡ false
-    → map unplaced ys ≡ map unplaced moved
-    → hitting ds hs (xs ++ (s ∷ ys)) ≡ hitting ds hs (xs ++ moved)
-unfolding hitting hits keep
-lacking-one ds hs [] s ys moved lacks e =
-    ap (λ (b : Bool). keepIf b (unplaced s) (keep (hits ds hs) (map unplaced ys))) lacks ∙ ap (keep (hits ds hs)) e
-lacking-one ds hs (x ∷ xs) s ys moved lacks e = ap (keepIf (hits ds hs x) (unplaced x)) (lacking-one ds hs xs s ys moved lacks e)
-
--- nor, with X clear, of whether some exclusion has X set
-pub clear-one
-    : (xs : List Subobject) (s : Subobject) (ys moved : List Subobject)
-    → s .top ≡ false
-    → map unplaced ys ≡ map unplaced moved
-    → someDesired (xs ++ (s ∷ ys)) ≡ someDesired (xs ++ moved)
-unfolding someDesired any
-clear-one [] s ys moved clear e =
-    ap (λ (b : Bool). b || someDesired ys) clear ∙ sym (desired-unplaced ys) ∙ ap someDesired e ∙ desired-unplaced moved
-clear-one (x ∷ xs) s ys moved clear e = ap (λ (b : Bool). x .top || b) (clear-one xs s ys moved clear e)
 
 -- ---- two searches
 

@@ -11,7 +11,7 @@ use Rattle.model.specs.declared.Hop.{Hop}
 use Rattle.model.specs.Lists.{below}
 use Rattle.model.specs.Profile.{between}
 use Rattle.laws.proofs.Tests.{and-both}
-use Rattle.laws.proofs.Lists.{Sorted}
+use Rattle.laws.specs.Sorted.{Sorted}
 use Rattle.laws.proofs.Below.{below-cons, below-irrefl}
 
 -- what a hop record is ordered by

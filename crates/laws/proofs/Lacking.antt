@@ -18,7 +18,7 @@ use Rattle.model.specs.Profile.{domains, hops}
 use Rattle.model.specs.Subobject.{Subobject, formVerdict, subobjects}
 use Rattle.model.specs.Sequence.{Stop}
 use Rattle.model.specs.Exclusion.{inForce, someDesired}
-use Rattle.model.specs.Request.{Request, layoutOf, Accepted, searchIn}
+use Rattle.model.specs.Request.{Request, layoutFor, Accepted, searchIn}
 use Rattle.model.specs.Path.{admissible, cheapest, shortestPaths}
 use Rattle.model.specs.Rounds.{roundIf, roundOf, searchOf}
 use Rattle.model.specs.Calls.{buildTree}
@@ -37,7 +37,7 @@ use Rattle.laws.proofs.Hits.{hits, unplaced, hitting, SameFound, same-f
 
 -- the exclusions of a request that hit its profile
 abbrev pub hitsOf : Request → List Subobject
-hitsOf r = hitting (domains (r .profile)) (hops (layoutOf r) (r .profile)) (subobjects (r .exclude))
+hitsOf r = hitting (domains (r .profile)) (hops (layoutFor r) (r .profile)) (subobjects (r .exclude))
 
 -- two requests differ in their exclude lists alone, and these in what the profile lacks
 pub record SameButLacking (r r′ : Request) : Type 0 where
@@ -101,7 +101,7 @@ in-rounds
 unfolding searchIn
 in-rounds r list sequence accepted x y e =
     let ds = domains (r .profile) in
-    let hs = hops (layoutOf r) (r .profile) in
+    let hs = hops (layoutFor r) (r .profile) in
     let low : r .ingress < length ds = omega (arith, passed-request r (accepted-verdict r sequence accepted) .ingress, length-domains (r .profile)) in
     same-found (searchIn x r sequence) (meaning-inside ds (r .ingress) (r .include) sequence (accepted-meaning r sequence accepted) low)
     (inForce x (subobjects (r .exclude)))
@@ -119,12 +119,12 @@ module _ (r : Request) (list : List ℕ) (sequence : List Stop) (accepted : Acce
   AllInForce = (x : Round) → keep (countsIn x) (hitsOf r) ≡ hitsOf r
 
   clear-first : someDesired (subobjects (r .exclude)) ≡ false → AllInForce
-  clear-first c = clear-in-force (domains (r .profile)) (hops (layoutOf r) (r .profile)) (subobjects (r .exclude)) c
+  clear-first c = clear-in-force (domains (r .profile)) (hops (layoutFor r) (r .profile)) (subobjects (r .exclude)) c
 
   clear-second : someDesired (subobjects list) ≡ false → AllInForce
   clear-second c x =
       subst (λ (k : List Subobject). keep (countsIn x) k ≡ k) (sym same)
-      (clear-in-force (domains (r .profile)) (hops (layoutOf r) (r .profile)) (subobjects list) c x)
+      (clear-in-force (domains (r .profile)) (hops (layoutFor r) (r .profile)) (subobjects list) c x)
 
   first-alike : isEmpty (admissible (searchIn First r sequence)) ≡ isEmpty (admissible (searchIn First (withExclude r list) sequence))
   first-alike = ap isEmpty (in-rounds r list sequence accepted First First (ap (keep (countsIn First)) same) .admissible)
@@ -238,7 +238,7 @@ module _
 
   -- the profile lacks all that they name
   pub lacking-inserted
-      : ((s : Subobject) → List·Memᴰ s (subobjects some) → hits (domains (r .profile)) (hops (layoutOf r) (r .profile)) s ≡ false)
+      : ((s : Subobject) → List·Memᴰ s (subobjects some) → hits (domains (r .profile)) (hops (layoutFor r) (r .profile)) s ≡ false)
       → SameButLacking (withExclude r (before ++ (some ++ after))) (withExclude r (before ++ after))
   lacking-inserted lacks =
       record {
@@ -248,7 +248,7 @@ module _
         destination = refl;
         include = refl;
         limits = refl;
-        hits = inserted-lacking Exclude before some after inserted (domains (r .profile)) (hops (layoutOf r) (r .profile)) lacks;
+        hits = inserted-lacking Exclude before some after inserted (domains (r .profile)) (hops (layoutFor r) (r .profile)) lacks;
       }
 
   -- and all have X clear

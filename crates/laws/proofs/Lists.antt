@@ -2,7 +2,7 @@
 -- By recursion on the list.
 use mathlib.Core.Path.{_≡_, refl, sym, subst, _∙_, ap}
 use mathlib.Core.Logic.{_⊎_, inl, inr, ⊎-elim}
-use mathlib.Core.Bool.{Bool, true, false, not, _&&_, _||_, true≢false, false≢true}
+use mathlib.Core.Bool.{Bool, true, false, false≢true}
 use mathlib.Core.List.{List, [], _∷_, _++_, map, List·Memᴰ, List·Memᴰ·head, List·Memᴰ·tail, Memᴰ·append-left, Memᴰ·append-right, List·Memᴰ·append-cases, List·Memᴰ·cases-cons, List·Memᴰ·not-nil}
 use Prim.Native.Nat.{ℕ, zero, suc, _+_, _≤_, _<_}
 use native.Mathlib.Omega.{arith}
@@ -10,7 +10,8 @@ use native.Mathlib.Nat.{eq-or-lt-of-le}
 use lib.ListN.{length, getD, take, drop, set, length-append, length-drop}
 use lib.Seq.{take-append-seam, drop-append-seam, length-take-le, drop-cons, take-suc, set-at, append-snoc}
 use Rattle.model.specs.Lists.{countFrom, keepIf, keep, all, any, each, over}
-use Rattle.laws.proofs.Tests.{and-both, or-either, or-left, or-right, or-neither, both-and, decide, clash}
+use Rattle.laws.specs.Sorted.{Sorted}
+use Rattle.laws.proofs.Tests.{and-both, or-either, or-left, or-right, or-neither, both-and}
 
 module _ {A : Type 0} where
   -- ---- keep
@@ -133,20 +134,16 @@ module _ {A B : Type 0} where
 -- ---- lists in a strict order: each element stands in the relation to every later one
 
 module _ {A : Type 0} (R : A → A → Type 0) where
-  abbrev pub Sorted : List A → Type 0
-  Sorted [] = Unit {0}
-  Sorted (x ∷ xs) = ((y : A) → List·Memᴰ y xs → R x y) × Sorted xs
-
-  keepIf-sorted : (b : Bool) (x : A) (xs : List A) → ((y : A) → List·Memᴰ y xs → R x y) → Sorted xs → Sorted (keepIf b x xs)
+  keepIf-sorted : (b : Bool) (x : A) (xs : List A) → ((y : A) → List·Memᴰ y xs → R x y) → Sorted R xs → Sorted R (keepIf b x xs)
   keepIf-sorted true x xs h s = (h, s)
   keepIf-sorted false x xs h s = s
 
-  pub sorted-keep : (p : A → Bool) (xs : List A) → Sorted xs → Sorted (keep p xs)
+  pub sorted-keep : (p : A → Bool) (xs : List A) → Sorted R xs → Sorted R (keep p xs)
   unfolding keep
   sorted-keep p [] s = tt
   sorted-keep p (x ∷ xs) s = keepIf-sorted (p x) x (keep p xs) (λ y m. s .0 y ((keep-mem p xs m) .0)) (sorted-keep p xs (s .1))
 
-  pub sorted-append : (xs ys : List A) → Sorted xs → Sorted ys → ((x y : A) → List·Memᴰ x xs → List·Memᴰ y ys → R x y) → Sorted (xs ++ ys)
+  pub sorted-append : (xs ys : List A) → Sorted R xs → Sorted R ys → ((x y : A) → List·Memᴰ x xs → List·Memᴰ y ys → R x y) → Sorted R (xs ++ ys)
   sorted-append [] ys s t h = t
   sorted-append (x ∷ xs) ys s t h = (
     λ y m. ⊎-elim (λ n. s .0 y n) (λ n. h x y (List·Memᴰ·head refl) n) (List·Memᴰ·append-cases xs m),

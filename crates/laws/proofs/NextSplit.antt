@@ -4,7 +4,7 @@ use mathlib.Core.Path.{_≡_, refl, sym, _∙_, ap}
 use mathlib.Core.Logic.{⊎-elim}
 use mathlib.Core.Bool.{Bool, true, false, _&&_, _||_}
 use mathlib.Core.List.{List, [], _∷_, map, head?, List·Memᴰ, List·Memᴰ·head, List·Memᴰ·tail}
-use mathlib.Core.Option.{Option, none, some, Option·map}
+use mathlib.Core.Option.{Option, some, Option·map}
 use Prim.Native.Nat.{ℕ, suc, _<_}
 use native.Mathlib.Nat.{eq-or-lt-of-le}
 use native.Mathlib.Omega.{arith}
@@ -16,16 +16,18 @@ use Rattle.model.specs.Request.{Search}
 use Rattle.model.specs.Path.{Leg, legs, keepsBound, Route, extended, hopsFrom, routesIf, suffixes, paths, cheapest, shortestPaths}
 use Rattle.model.specs.Calls.{greaterThan}
 use Rattle.laws.proofs.Tests.{decide}
-use Rattle.laws.proofs.Lists.{keep-mem, keep-agree, keep-all, keep-none, Sorted, sorted-keep}
+use Rattle.laws.specs.Sorted.{Sorted}
+use Rattle.laws.proofs.Lists.{keep-mem, keep-agree, keep-all, keep-none, sorted-keep}
 use Rattle.laws.proofs.Below.{below-head}
 use Rattle.laws.proofs.HopKeys.{hopBelow, SortedHops}
 use Rattle.laws.proofs.Suffixes.{suffixes-end, suffixes-step, suffix-begins}
 use Rattle.laws.proofs.SuffixesAscend.{leaving-ascend, hopsFrom-ascend}
 use Rattle.laws.proofs.Picks.{keep-map, keep-each}
-use Rattle.laws.proofs.Firsts.{optionIf, orElse, through-agree, head?-mem, head?-map, first-from}
-use Rattle.laws.proofs.TreeLeast.{reachFrom}
+use Rattle.laws.specs.Descent.{optionIf, orElse, onShortest, shortestHops, behindFirst, firstFrom, nextAfter, nextBy, nextFrom}
+use Rattle.laws.proofs.Firsts.{through-agree, head?-mem, head?-map, first-from}
+use Rattle.laws.specs.Reach.{reachFrom}
 use Rattle.laws.proofs.Cheapest.{cheapest-mem, bound-once}
-use Rattle.laws.proofs.Split.{onShortest, shortestHops, cheapestBehind, behindFirst, firstFrom, cheapest-split-reached, shortestHops-mem, behind-some, first-split, first-behind}
+use Rattle.laws.proofs.Split.{cheapestBehind, cheapest-split-reached, shortestHops-mem, behind-some, first-split, first-behind}
 
 -- the same number in front changes nothing
 below-same : (x : ℕ) (xs ys : List ℕ) → below (x ∷ xs) (x ∷ ys) ≡ below xs ys
@@ -35,31 +37,6 @@ below-same x xs ys = λ i. le-ltb x x (omega arith) i || (eq-eqb x x refl i && b
 not-below-head : (x y : ℕ) (xs ys : List ℕ) → y < x → below (x ∷ xs) (y ∷ ys) ≡ false
 unfolding below
 not-below-head x y xs ys l = λ i. le-ltb x y (omega arith) i || (ne-eqb x y (λ e. omega arith) i && below xs ys)
-
--- ---- the recursion along a given list
-
--- The first of the cheapest suffixes from a whose addresses behind a are above g. With no leg left nothing stands behind a; above the empty list is each.
--- Else, where the first of g is the head of a hop on a shortest way, what is found deeper behind that hop with the rest of g; where there is nothing, the
--- first behind the first such hop of greater head.
-unfoldable pub nextAfter : Search → List Leg → ℕ → ℕ → List ℕ → Option Route
-nextAfter S [] i a g = none
-nextAfter S (leg ∷ rest) i a [] = firstFrom S (leg ∷ rest) i a
-nextAfter S (leg ∷ rest) i a (y ∷ g) =
-    optionIf ((reachFrom S (leg ∷ rest) i a) .reachable)
-    (orElse
-    (behindFirst a (λ (h : Hop). nextAfter S rest (suc i) (h .head .0) g) (keep (λ (h : Hop). eqb (h .head .0) y) (shortestHops S leg rest i a)))
-    (behindFirst a (λ (h : Hop). firstFrom S rest (suc i) (h .head .0)) (keep (λ (h : Hop). ltb y (h .head .0)) (shortestHops S leg rest i a))))
-
--- the given list's first address is less than a, or is a, or is greater
-abbrev pub nextBy : Bool → Bool → Option Route → Option Route → Option Route
-nextBy true equal first deeper = first
-nextBy false true first deeper = deeper
-nextBy false false first deeper = none
-
--- the first of the cheapest suffixes from a that is above a given list
-unfoldable pub nextFrom : Search → List Leg → ℕ → ℕ → List ℕ → Option Route
-nextFrom S ls i a [] = firstFrom S ls i a
-nextFrom S ls i a (x ∷ g) = nextBy (ltb x a) (eqb x a) (firstFrom S ls i a) (nextAfter S ls i a g)
 
 -- ---- what stands above a list that begins with a smaller, a greater, the same address
 

@@ -13,11 +13,11 @@ use Rattle.model.specs.Profile.{costLimit}
 use Rattle.model.specs.Sequence.{Stop}
 use Rattle.model.specs.Request.{Search}
 use Rattle.model.specs.Path.{legs, IsPath, total, keepsBound, Admissible, allowed, Route, paths, admissible, totalLimit}
-use Rattle.laws.proofs.Lists.{keep-mem, mem-keep, map-mem, mem-map, sorted-keep}
+use Rattle.laws.proofs.Lists.{keep-mem, mem-keep, map-mem, mem-map}
 use Rattle.laws.proofs.Allowed.{allowed-node, allowed-domain, allowed-pin, allowed-destination, domain-allowed, destination-allowed}
 use Rattle.laws.proofs.HopKeys.{SortedHops}
 use Rattle.laws.proofs.Suffixes.{addressesOf, IsSuffix, suffixes-exact}
-use Rattle.laws.proofs.SuffixesAscend.{Ascending, ascending-once, AscendingRoutes, routeBelow, routes-ascend, suffix-routes-ascend}
+use Rattle.laws.proofs.SuffixesAscend.{Ascending, ascending-once, AscendingRoutes, routes-ascend, suffix-routes-ascend}
 use Rattle.laws.proofs.SuffixTotals.{suffix-total, suffix-total-bound}
 
 -- as many legs as domains
@@ -160,10 +160,3 @@ admissible-exact S s p = (
       (mem-keep (λ (q : Route). keepsBound (S .limits) (q .total)) (r .1)
       (subst (λ (c : ℕ). keepsBound (S .limits) c ≡ true) (ap (total S) (r .2) ∙ sym (paths-total S s (r .0) (r .1))) (x .bound)))),
 )
-
-pub admissible-routes-ascend : (S : Search) → SortedHops (S .hops) → AscendingRoutes (admissible S)
-unfolding admissible
-admissible-routes-ascend S s = sorted-keep routeBelow (λ (q : Route). keepsBound (S .limits) (q .total)) (paths S) (path-routes-ascend S s)
-
-pub admissible-ascend : (S : Search) → SortedHops (S .hops) → Ascending (map addressesOf (admissible S))
-admissible-ascend S s = routes-ascend (admissible S) (admissible-routes-ascend S s)

@@ -1,48 +1,22 @@
--- Lists by index and lists in a strict order: what stands at a place of `map f (countFrom 0 n)`, any two elements of a sorted list, and `insert` and `different`,
--- which keep the members and make the list strictly ascending. By recursion on the list.
+-- Lists by index and lists in a strict order: what stands at a place of `map f (countFrom 0 n)`, and `insert` and `different`, which keep the members and make the list strictly ascending. By recursion on the list.
 use Prim.Native.Nat.{ℕ, zero, suc, _+_, _≤_, _<_}
 use native.Mathlib.Omega.{arith}
-use mathlib.Core.Path.{_≡_, refl, sym, ap, subst, _∙_}
+use mathlib.Core.Path.{_≡_, refl, ap, _∙_}
 use mathlib.Core.Logic.{_⊎_, inl, inr, ⊎-elim}
 use mathlib.Core.Bool.{Bool, true, false}
 use mathlib.Core.List.{List, [], _∷_, _++_, map, List·Memᴰ, Memᴰ·cast, Memᴰ·append-left, Memᴰ·append-right, List·Memᴰ·append-cases, List·Memᴰ·eq-of-singleton, List·Memᴰ·head, List·Memᴰ·tail, List·Memᴰ·cases-cons, List·Memᴰ·not-nil}
-use lib.ListN.{length, getD, take, length-map}
-use lib.Seq.{ext-getD, length-take-le, getD-take}
-use native.Mathlib.Nat.{zero-add}
+use lib.ListN.{length, getD, length-map}
 use lib.Dec.{eqb, ltb}
 use borrow.Author.Tests.{ltb-true, ltb-false, eqb-true, eqb-false, eq-eqb}
 use Rattle.model.specs.Lists.{countFrom, any, among, insertAt, insert, different}
 use Rattle.laws.proofs.Tests.{or-neither, clash}
-use Rattle.laws.proofs.Lists.{Sorted, countFrom-mem, any-mem, mem-any}
+use Rattle.laws.specs.Sorted.{Sorted}
+use Rattle.laws.proofs.Lists.{countFrom-mem, any-mem, mem-any}
 
 pub sorted-countFrom : (i n : ℕ) → Sorted _<_ (countFrom i n)
 unfolding countFrom
 sorted-countFrom i zero = tt
 sorted-countFrom i (suc n) = (λ y m. (countFrom-mem (suc i) n m) .0, sorted-countFrom (suc i) n)
-
--- a list in one order is in any other that the first implies, on its elements
-pub sorted-weaken
-    : {A : Type 0} (R Q : A → A → Type 0) (xs : List A)
-    → ((x y : A) → List·Memᴰ x xs → List·Memᴰ y xs → R x y → Q x y)
-    → Sorted R xs → Sorted Q xs
-sorted-weaken R Q [] h s = tt
-sorted-weaken R Q (x ∷ xs) h s = (
-  λ y m. h x y (List·Memᴰ·head refl) (List·Memᴰ·tail m) (s .0 y m),
-  sorted-weaken R Q xs (λ y z m n. h y z (List·Memᴰ·tail m) (List·Memᴰ·tail n)) (s .1),
-)
-
--- any two elements are the same, or one stands before the other
-module _ {A : Type 0} (R : A → A → Type 0) where
-  pub sorted-compare : (xs : List A) → Sorted R xs → {x y : A} → List·Memᴰ x xs → List·Memᴰ y xs → (x ≡ y) ⊎ (R x y ⊎ R y x)
-  sorted-compare [] s m n = absurd (List·Memᴰ·not-nil m)
-  sorted-compare (z ∷ zs) s {x} {y} m n =
-      let further : List·Memᴰ x zs → List·Memᴰ y zs → (x ≡ y) ⊎ (R x y ⊎ R y x) = λ p q. sorted-compare zs (s .1) p q in
-      ⊎-elim
-      (λ (e : x ≡ z).
-      ⊎-elim (λ (f : y ≡ z). inl (e ∙ sym f)) (λ (q : List·Memᴰ y zs). inr (inl (subst (λ (w : A). R w y) (sym e) (s .0 y q)))) (List·Memᴰ·cases-cons n))
-      (λ (p : List·Memᴰ x zs).
-      ⊎-elim (λ (f : y ≡ z). inr (inr (subst (λ (w : A). R w x) (sym f) (s .0 x p)))) (λ (q : List·Memᴰ y zs). further p q) (List·Memᴰ·cases-cons n))
-      (List·Memᴰ·cases-cons m)
 
 -- ---- the numbers from i on, and what f gives at each of the first n
 
@@ -50,12 +24,6 @@ pub length-countFrom : (i n : ℕ) → length (countFrom i n) ≡ n
 unfolding countFrom
 length-countFrom i zero = refl
 length-countFrom i (suc n) = ap suc (length-countFrom (suc i) n)
-
-pub getD-countFrom : (i n k d : ℕ) → k < n → getD (countFrom i n) k d ≡ i + k
-unfolding countFrom
-getD-countFrom i zero k d h = absurd (omega arith)
-getD-countFrom i (suc n) zero d h = omega arith
-getD-countFrom i (suc n) (suc k) d h = omega (arith, getD-countFrom (suc i) n k d (omega arith))
 
 module _ {A : Type 0} (f : ℕ → A) where
   pub length-map-countFrom : (i n : ℕ) → length (map f (countFrom i n)) ≡ n
@@ -191,12 +159,3 @@ different-snoc xs x =
     (λ (e : z ≡ x). Memᴰ·append-right xs (List·Memᴰ·head e))
     (λ n. Memᴰ·append-left (x ∷ []) (different-mem xs n))
     (insert-mem x (different xs) m)))
-
--- the elements of a list by their indexes, as far as n
-pub taken-by-index : (xs : List ℕ) (n : ℕ) → n ≤ length xs → map (λ (i : ℕ). getD xs i 0) (countFrom 0 n) ≡ take n xs
-taken-by-index xs n h =
-    let at : ℕ → ℕ = λ i. getD xs i 0 in
-    ext-getD 0 (map at (countFrom 0 n)) (take n xs) (length-map-countFrom at 0 n ∙ sym (length-take-le n xs h))
-    (λ i l.
-    let below : i < n = subst (λ (m : ℕ). i < m) (length-map-countFrom at 0 n) l in
-    getD-map-countFrom at 0 n i 0 below ∙ ap at (zero-add i) ∙ sym (getD-take n xs i 0 below))

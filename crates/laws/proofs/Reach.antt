@@ -5,60 +5,17 @@ use mathlib.Core.Path.{_≡_, refl, sym, _∙_, ap}
 use mathlib.Core.Logic.{⊎-elim}
 use mathlib.Core.Bool.{Bool, true, false, not, _&&_, _||_, true≢false, false≢true}
 use mathlib.Core.List.{List, [], _∷_, _++_, map, append-assoc, append-nil, List·Memᴰ, List·Memᴰ·head, List·Memᴰ·tail, List·Memᴰ·not-nil}
-use Prim.Native.Nat.{ℕ, suc, _+_, _≤_, _<_, min}
+use Prim.Native.Nat.{ℕ, _+_, _≤_, _<_, min}
 use native.Mathlib.Omega.{arith}
 use lib.Dec.{ltb}
-use lib.ListN.{length, take, drop, getD, take-append-drop}
-use lib.Seq.{take-suc}
 use borrow.Author.Tests.{ltb-true, ltb-false, lt-ltb, le-ltb}
 use Rattle.model.specs.declared.Hop.{Hop}
-use Rattle.model.specs.Lists.{isEmpty, least, keep, keepIf, each}
+use Rattle.model.specs.Lists.{least, keep, keepIf, each}
 use Rattle.model.specs.Path.{Route, extended}
+use Rattle.laws.specs.Reach.{Reach, unreached, totals, leastFrom, reachIf, betterIf, better, via, bestFrom}
 use Rattle.laws.proofs.Tests.{decide}
 use Rattle.laws.proofs.Lists.{map-mem, mem-map, map-append}
 use Rattle.laws.proofs.Least.{least-mem, least-at-most, least-append, least-add}
-
--- the destination can be reached or not, and at which cost
-pub record Reach : Type 0 where
-  pub reachable : Bool
-  pub cost : ℕ
-
-abbrev pub unreached : Reach
-unreached = record { reachable = false; cost = 0 }
-
--- reached at no cost: one is there
-abbrev pub arrived : Reach
-arrived = record { reachable = true; cost = 0 }
-
-abbrev pub totals : List Route → List ℕ
-totals rs = map (λ (r : Route). r .total) rs
-
--- reachable where there is a route, at the least total
-unfoldable pub leastFrom : List Route → Reach
-leastFrom rs = record { reachable = not (isEmpty rs); cost = least (totals rs) }
-
--- nothing where a test fails
-abbrev pub reachIf : Bool → Reach → Reach
-reachIf true x = x
-reachIf false x = unreached
-
-abbrev pub betterIf : Bool → Reach → Reach → Reach
-betterIf true best new = new
-betterIf false best new = best
-
--- the better of what was found so far and what is found now: the new one where it is reachable, and is the first or costs less
-abbrev pub better : Reach → Reach → Reach
-better best new = betterIf (new .reachable && (not (best .reachable) || ltb (new .cost) (best .cost))) best new
-
--- what is reachable behind a hop of some cost
-abbrev pub via : ℕ → Reach → Reach
-via c there = reachIf (there .reachable) (record { reachable = true; cost = c + there .cost })
-
--- a running minimum over a list, from what was found before
-module _ {A : Type 0} where
-  unfoldable pub bestFrom : Reach → (A → Reach) → List A → Reach
-  bestFrom best f [] = best
-  bestFrom best f (x ∷ xs) = bestFrom (better best (f x)) f xs
 
 -- ---- what a step of the running minimum does, in each case of a loop's tests
 
@@ -193,31 +150,6 @@ module _ {A : Type 0} where
   unfolding bestFrom
   bestFrom-append best f [] ys = refl
   bestFrom-append best f (x ∷ xs) ys = bestFrom-append (better best (f x)) f xs ys
-
-  -- one more element, as a loop goes
-  pub bestFrom-next
-      : (best : Reach) (f : A → Reach) (xs : List A) (j : ℕ) (d : A) → j < length xs
-      → bestFrom best f (take (suc j) xs) ≡ better (bestFrom best f (take j xs)) (f (getD xs j d))
-  unfolding bestFrom
-  bestFrom-next best f xs j d h = ap (bestFrom best f) (take-suc xs j d h) ∙ bestFrom-append best f (take j xs) (getD xs j d ∷ [])
-
-  -- elements that give nothing change nothing
-  pub bestFrom-nothing : (best : Reach) (f : A → Reach) (xs : List A) → ((x : A) → List·Memᴰ x xs → (f x) .reachable ≡ false) → bestFrom best f xs ≡ best
-  unfolding bestFrom
-  bestFrom-nothing best f [] h = refl
-  bestFrom-nothing best f (x ∷ xs) h =
-      ap (λ (b : Reach). bestFrom b f xs) (better-none best (f x) (h x (List·Memᴰ·head refl)))
-      ∙ bestFrom-nothing best f xs (λ y m. h y (List·Memᴰ·tail m))
-
-  -- what is left from some place on, where it gives nothing, needn't be looked at
-  pub bestFrom-rest
-      : (best : Reach) (f : A → Reach) (xs : List A) (k : ℕ)
-      → ((x : A) → List·Memᴰ x (drop k xs) → (f x) .reachable ≡ false)
-      → bestFrom best f (take k xs) ≡ bestFrom best f xs
-  bestFrom-rest best f xs k h =
-      sym (bestFrom-nothing (bestFrom best f (take k xs)) f (drop k xs) h)
-      ∙ sym (bestFrom-append best f (take k xs) (drop k xs))
-      ∙ ap (bestFrom best f) (take-append-drop k xs)
 
   -- over those that pass a test: an element that fails it gives nothing
   pub bestFrom-keep

@@ -14,7 +14,7 @@ use Rattle.model.specs.Subobject.{Subobject, subobjects}
 use Rattle.model.specs.Sequence.{Stop}
 use Rattle.model.specs.Exclusion.{counts, inForce, someDesired}
 use Rattle.model.specs.Profile.{hops}
-use Rattle.model.specs.Request.{Request, layoutOf, Search, searchIn}
+use Rattle.model.specs.Request.{Request, layoutFor, Search, searchIn}
 use Rattle.model.specs.Path.{Admissible, Route, admissible}
 use Rattle.model.specs.Rounds.{roundIf, roundBy, roundOf, searchOf}
 use Rattle.laws.proofs.Tests.{decide, and-both, both-and, and-false, clash, refuted}
@@ -107,7 +107,7 @@ module _ (exclusions : List Subobject) (S : Search) where
 
 -- ---- the law
 
-pub round-exact : (r : Request) (sequence : List Stop) → SortedHops (hops (layoutOf r) (r .profile)) → RoundExact r sequence
+pub round-exact : (r : Request) (sequence : List Stop) → SortedHops (hops (layoutFor r) (r .profile)) → RoundExact r sequence
 unfolding roundOf searchOf searchIn inForce someDesired
 round-exact r sequence sorted =
     let S = searchIn First r sequence in

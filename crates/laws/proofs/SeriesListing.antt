@@ -2,7 +2,7 @@
 -- there is none exactly when it is empty. Over the reference series, whose number p goes with the path last handed out.
 use mathlib.Core.Path.{_≡_, refl, sym, subst, _∙_, ap}
 use mathlib.Core.Logic.{_↔_}
-use mathlib.Core.Bool.{Bool, true, false, true≢false}
+use mathlib.Core.Bool.{Bool, true, false}
 use mathlib.Core.List.{List, [], _∷_, _++_, map, List·Memᴰ, List·Memᴰ·head, List·Memᴰ·tail}
 use Prim.Native.Nat.{ℕ, zero, suc, _-_, _≤_, _<_, zero-le}
 use native.Mathlib.Nat.{le-of-eq}
@@ -10,12 +10,12 @@ use native.Mathlib.Omega.{arith}
 use lib.ListN.{length, getD, take, drop, drop-of-length-le}
 use lib.Seq.{drop-cons}
 use lib.Dec.{eqb, ltb, eqb·suc-zero}
-use borrow.Author.Tests.{eqb-true, eqb-false, eq-eqb, le-ltb}
+use borrow.Author.Tests.{eqb-true, eqb-false, le-ltb}
 use Rattle.model.specs.declared.Round.{Round}
 use Rattle.model.specs.Lists.{over}
 use Rattle.model.specs.Path.{Route}
 use Rattle.model.specs.Answers.{plain4}
-use Rattle.model.specs.Calls.{Outcome, found}
+use Rattle.model.specs.Calls.{found}
 use Rattle.model.specs.Series.{Kind, firstCall, nextCall, Call, Reply, replyTo, Entry, noRoute, bookFirst, bookNext, bookEntry, book, lastAfter}
 use Rattle.laws.proofs.Lists.{over-take}
 use Rattle.laws.proofs.Ascending.{getD-mem}

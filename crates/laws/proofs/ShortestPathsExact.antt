@@ -13,7 +13,8 @@ use Rattle.model.specs.Lists.{keep, all, below}
 use Rattle.model.specs.Request.{Search}
 use Rattle.model.specs.Path.{Route, keepsBound, paths, admissible, cheapest, shortestPaths}
 use Rattle.model.specs.Series.{noRoute}
-use Rattle.laws.proofs.Lists.{keep-mem, mem-keep, all-mem, mem-all, Sorted, sorted-keep, sorted-map}
+use Rattle.laws.specs.Sorted.{Sorted}
+use Rattle.laws.proofs.Lists.{keep-mem, mem-keep, all-mem, mem-all, sorted-keep, sorted-map}
 use Rattle.laws.proofs.Below.{below-irrefl}
 use Rattle.laws.proofs.Ascending.{sorted-by, sorted-getD}
 

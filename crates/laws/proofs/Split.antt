@@ -4,7 +4,7 @@ use mathlib.Core.Path.{_≡_, refl, sym, subst, _∙_, ap}
 use mathlib.Core.Logic.{⊎-elim}
 use mathlib.Core.Bool.{Bool, true, false, _&&_}
 use mathlib.Core.List.{List, [], _∷_, map, head?, List·Memᴰ}
-use mathlib.Core.Option.{Option, none, some, Option·map, Option·none-ne-some, Option·some-ne-none, Option·some-injective}
+use mathlib.Core.Option.{none, some, Option·map, Option·none-ne-some, Option·some-ne-none, Option·some-injective}
 use Prim.Native.Nat.{ℕ, suc, _+_, _≤_}
 use native.Mathlib.Omega.{arith}
 use lib.Dec.{eqb}
@@ -13,26 +13,19 @@ use Rattle.model.specs.declared.Hop.{Hop}
 use Rattle.model.specs.declared.Round.{Round}
 use Rattle.model.specs.Lists.{isEmpty, keep, all, each}
 use Rattle.model.specs.Request.{Search}
-use Rattle.model.specs.Path.{Leg, legs, keepsBound, allowed, Route, extended, leaves, hopsFrom, routesIf, suffixes, paths, cheapest, shortestPaths}
+use Rattle.model.specs.Path.{Leg, allowed, Route, extended, leaves, hopsFrom, routesIf, suffixes, cheapest}
 use Rattle.model.specs.Answers.{plain4}
 use Rattle.model.specs.Calls.{nothing, found, firstOf}
 use Rattle.laws.proofs.Tests.{decide, clash, and-both, both-and}
 use Rattle.laws.proofs.Lists.{keep-mem, keep-agree, keep-none, mem-map, mem-each}
 use Rattle.laws.proofs.Picks.{listIf, keep-keep, keep-map, keep-each, each-agree, each-keep}
-use Rattle.laws.proofs.Firsts.{optionIf, through, through-agree, head?-mem, head?-some, head?-map, head?-each}
-use Rattle.laws.proofs.Suffixes.{ending, behind}
-use Rattle.laws.proofs.Reach.{Reach, arrived, leastFrom, reachIf, leastFrom-reachable, leastFrom-unreached, leastFrom-some, leastFrom-at-most}
-use Rattle.laws.proofs.TreeLeast.{reachFrom, step-end}
-use Rattle.laws.proofs.Cheapest.{atLeastTotal, cheapest-least, cheapest-mem, cheapest-some, cheapest-nil, bound-once}
-
--- a hop lies on a shortest way: its head is reachable, and its cost with the least cost there is the least cost here
-abbrev pub onShortest : Reach → Hop → Reach → Bool
-onShortest here h there = there .reachable && eqb (h .cost + there .cost) (here .cost)
-
--- the usable hops of a leg that leave an address and lie on a shortest way, in file order
-unfoldable pub shortestHops : Search → Leg → List Leg → ℕ → ℕ → List Hop
-shortestHops S leg rest i a =
-    keep (λ (h : Hop). onShortest (reachFrom S (leg ∷ rest) i a) h (reachFrom S rest (suc i) (h .head .0))) (hopsFrom S leg a)
+use Rattle.laws.specs.Descent.{optionIf, ending, onShortest, shortestHops, firstFrom}
+use Rattle.laws.proofs.Firsts.{through-agree, head?-some, head?-map, head?-each}
+use Rattle.laws.proofs.Suffixes.{behind}
+use Rattle.laws.specs.Reach.{Reach, arrived, leastFrom, reachIf, reachFrom}
+use Rattle.laws.proofs.Reach.{leastFrom-reachable, leastFrom-unreached, leastFrom-some, leastFrom-at-most}
+use Rattle.laws.proofs.TreeLeast.{step-end}
+use Rattle.laws.proofs.Cheapest.{atLeastTotal, cheapest-least, cheapest-some, cheapest-nil}
 
 -- the cheapest suffixes behind a hop
 abbrev pub cheapestBehind : Search → List Leg → ℕ → ℕ → Hop → List Route
@@ -199,17 +192,6 @@ behind-some S leg rest i a h m =
 
 -- ---- the first of the cheapest suffixes
 
--- behind the first of some hops, what `further` gives for that hop; none where there is no hop or nothing behind it
-abbrev pub behindFirst : ℕ → (Hop → Option Route) → List Hop → Option Route
-behindFirst a further hs = through (λ (h : Hop). Option·map (extended a h) (further h)) (head? hs)
-
--- With no leg left the address alone; else behind the first hop on a shortest way. None where the destination can't be reached.
-unfoldable pub firstFrom : Search → List Leg → ℕ → ℕ → Option Route
-firstFrom S [] i a = optionIf ((reachFrom S [] i a) .reachable) (some (ending a))
-firstFrom S (leg ∷ rest) i a =
-    optionIf ((reachFrom S (leg ∷ rest) i a) .reachable)
-    (behindFirst a (λ (h : Hop). firstFrom S rest (suc i) (h .head .0)) (shortestHops S leg rest i a))
-
 end-reached : (S : Search) (i a : ℕ) → (reachFrom S [] i a) .reachable ≡ allowed S i a
 end-reached S i a = ap (λ (x : Reach). x .reachable) (step-end S i a) ∙ go (allowed S i a)
   where
@@ -250,49 +232,11 @@ pub first-behind
     → head? (cheapestBehind S rest i a h) ≡ Option·map (extended a h) (firstFrom S rest (suc i) (h .head .0))
 first-behind S rest i a h = behind-first S rest i a h (first-split S rest (suc i) (h .head .0))
 
--- its total is the least cost
-pub first-total : (S : Search) (ls : List Leg) (i a : ℕ) {r : Route} → firstFrom S ls i a ≡ some r → r .total ≡ (reachFrom S ls i a) .cost
-first-total S ls i a e =
-    (cheapest-mem (suffixes S ls i a) (head?-mem (cheapest (suffixes S ls i a)) (first-split S ls i a ∙ e))) .1
-
 -- there is one where the destination can be reached
 pub first-there : (S : Search) (ls : List Leg) (i a : ℕ) → (reachFrom S ls i a) .reachable ≡ true → (r : Route) × (firstFrom S ls i a ≡ some r)
 first-there S ls i a t =
     let k = head?-some (cheapest (suffixes S ls i a)) (cheapest-some (suffixes S ls i a) t) in
     (k .0, sym (first-split S ls i a) ∙ k .1)
-
--- and a first hop on a shortest way
-pub first-hop
-    : (S : Search) (leg : Leg) (rest : List Leg) (i a : ℕ)
-    → (reachFrom S (leg ∷ rest) i a) .reachable ≡ true
-    → (h : Hop) × (head? (shortestHops S leg rest i a) ≡ some h)
-unfolding each
-first-hop S leg rest i a t = go (shortestHops S leg rest i a) refl
-  where
-    empty-if : (b : Bool) → isEmpty (routesIf b []) ≡ true
-    empty-if true = refl
-    empty-if false = refl
-
-    go : (hs : List Hop) → shortestHops S leg rest i a ≡ hs → (h : Hop) × (head? hs ≡ some h)
-    go [] e =
-        clash
-        (ap isEmpty
-        (cheapest-split S leg rest i a ∙ ap (λ (hs : List Hop). routesIf (allowed S i a) (each (cheapestBehind S rest i a) hs)) e)
-        ∙ empty-if (allowed S i a))
-        (cheapest-some (suffixes S (leg ∷ rest) i a) t)
-    go (h ∷ hs) e = (h, refl)
-
--- the first shortest path: the first of all paths' cheapest, where the least total keeps the bound
-pub first-shortest
-    : (S : Search)
-    → head? (shortestPaths S)
-    ≡ optionIf (keepsBound (S .limits) ((reachFrom S (legs (S .sequence)) 0 (S .source)) .cost)) (firstFrom S (legs (S .sequence)) 0 (S .source))
-unfolding paths
-first-shortest S =
-    let kept = keepsBound (S .limits) ((leastFrom (paths S)) .cost) in
-    ap head? (bound-once S)
-    ∙ head?-if kept (cheapest (paths S))
-    ∙ ap (optionIf kept) (first-split S (legs (S .sequence)) 0 (S .source))
 
 -- what first and next answer goes by the first path alone
 pub answer-some : (round : Round) (number : ℕ) (ps : List Route) {p : Route} → head? ps ≡ some p → firstOf round number ps ≡ found round p

@@ -1,6 +1,7 @@
 -- A sequence that lent lists give: the stop at a place and what is written from it on, its domains and marks, and what it means that the writer accepts it.
 -- By taking the first element off each list.
 use Prim.Native.Nat.{ℕ, zero, suc, _≤_, _<_}
+use native.Mathlib.Nat.{zero-add}
 use native.Mathlib.Omega.{arith}
 use mathlib.Core.Path.{_≡_, refl, sym, ap, ap₂, _∙_}
 use mathlib.Core.Bool.{true, false, not}
@@ -11,13 +12,18 @@ use lib.Seq.{drop-cons}
 use lib.Dec.{eqb, ltb, leb}
 use borrow.Author.Tests.{eqb-true, eqb-false, ltb-false, leb-false, not-false}
 use Rattle.model.specs.declared.Domain.{Domain}
+use Rattle.model.specs.declared.DomainIndex.{DomainIndex}
+use Rattle.model.specs.declared.NodeAddress.{NodeAddress}
 use Rattle.model.specs.Lists.{any, allDifferent}
 use Rattle.model.specs.Sequence.{Stop, domainOf, domainsOf}
 use Rattle.model.specs.WrittenList.{pinIf, stops, writtenStop, writtenFrom, firstPinned, unwritable}
 use Rattle.model.specs.Calls.{pinMark}
+use Rattle.model.specs.Path.{noStop}
+use Rattle.laws.specs.Stops.{stopIn, stopsOf}
 use Rattle.laws.proofs.Tests.{or-neither}
 use Rattle.laws.proofs.Lists.{any-false}
 use Rattle.laws.proofs.Ascending.{getD-mem}
+use Rattle.laws.proofs.ProfileLists.{length-map-countFrom, getD-map-countFrom}
 
 module _ (ds : List Domain) (indexes marks nodes : List ℕ) where
   -- ---- what is written from a place on
@@ -105,3 +111,14 @@ accepts ds indexes marks nodes e =
 -- each index is that of a domain
 pub domain-inside : (ds : List Domain) (indexes marks nodes : List ℕ) → Accepts ds indexes marks nodes → (i : ℕ) → i < length indexes → getD indexes i 0 < length ds
 domain-inside ds indexes marks nodes a i h = leb-false _ _ (any-false (λ (d : ℕ). leb (length ds) d) (a .in-profile) (getD-mem indexes i 0 h))
+
+-- ---- the sequence that code holds, by index
+
+module _ (ds : List DomainIndex) (ms : List ℕ) (ns : List NodeAddress) (n : ℕ) where
+  pub stops-length : length (stopsOf n ds ms ns) ≡ n
+  unfolding stopsOf
+  stops-length = length-map-countFrom (stopIn ds ms ns) 0 n
+
+  pub stop-at : (i : ℕ) → i < n → getD (stopsOf n ds ms ns) i noStop ≡ stopIn ds ms ns i
+  unfolding stopsOf
+  stop-at i h = getD-map-countFrom (stopIn ds ms ns) 0 n i noStop h ∙ ap (stopIn ds ms ns) (zero-add i)

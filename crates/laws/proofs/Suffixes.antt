@@ -14,6 +14,7 @@ use Rattle.model.specs.Lists.{each}
 use Rattle.model.specs.Profile.{between}
 use Rattle.model.specs.Request.{Search}
 use Rattle.model.specs.Path.{Leg, noLeg, usable, Step, allowed, Route, extended, leaves, hopsFrom, routesIf, suffixes}
+use Rattle.laws.specs.Descent.{ending}
 use Rattle.laws.proofs.Tests.{and-both, both-and}
 use Rattle.laws.proofs.Lists.{keep-mem, mem-keep, map-mem, mem-map, each-mem, mem-each}
 
@@ -69,10 +70,6 @@ routesIf-mem false rs m = absurd (List·Memᴰ·not-nil m)
 mem-routesIf : (b : Bool) (rs : List Route) {r : Route} → b ≡ true → List·Memᴰ r rs → List·Memᴰ r (routesIf b rs)
 mem-routesIf true rs t m = m
 mem-routesIf false rs t m = absurd (false≢true t)
-
--- the destination alone
-abbrev pub ending : ℕ → Route
-ending a = record { addresses = a ∷ []; total = 0 }
 
 -- with no leg left a suffix is its one address
 pub suffixes-end : (S : Search) (i a : ℕ) {r : Route} → List·Memᴰ r (suffixes S [] i a) → (allowed S i a ≡ true) × (r ≡ ending a)

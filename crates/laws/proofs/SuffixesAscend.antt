@@ -9,10 +9,12 @@ use Rattle.model.specs.declared.Hop.{Hop}
 use Rattle.model.specs.Lists.{below, each}
 use Rattle.model.specs.Request.{Search}
 use Rattle.model.specs.Path.{Leg, allowed, Route, extended, leaves, hopsFrom, routesIf, suffixes}
-use Rattle.laws.proofs.Lists.{map-mem, Sorted, sorted-keep, sorted-map, sorted-each}
+use Rattle.laws.specs.Sorted.{Sorted}
+use Rattle.laws.proofs.Lists.{map-mem, sorted-keep, sorted-map, sorted-each}
 use Rattle.laws.proofs.Below.{below-head, below-tail, below-irrefl}
 use Rattle.laws.proofs.HopKeys.{hopBelow, SortedHops, heads-ascend}
-use Rattle.laws.proofs.Suffixes.{addressesOf, hopsFrom-mem, ending, behind, suffix-begins}
+use Rattle.laws.specs.Descent.{ending}
+use Rattle.laws.proofs.Suffixes.{addressesOf, hopsFrom-mem, behind, suffix-begins}
 
 -- address lists, each below every later one
 abbrev pub Ascending : List (List ℕ) → Type 0
@@ -97,7 +99,3 @@ suffix-routes-ascend S s (leg ∷ rest) i a =
     (λ h m. extended-ascend a h (suffixes S rest (suc i) (h .head .0)) (suffix-routes-ascend S s rest (suc i) (h .head .0)))
     (λ g h m n l q r. behind-ascend S rest i a g h (leaving-ascend S leg a g h m n l) q r)
     (hopsFrom-ascend S leg a s))
-
--- the address lists of `suffixes` ascend, and so each is there once
-pub suffixes-ascend : (S : Search) → SortedHops (S .hops) → (rest : List Leg) (i a : ℕ) → Ascending (map addressesOf (suffixes S rest i a))
-suffixes-ascend S s rest i a = routes-ascend (suffixes S rest i a) (suffix-routes-ascend S s rest i a)

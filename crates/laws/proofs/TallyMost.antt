@@ -13,7 +13,7 @@ use Rattle.model.specs.declared.Round.the-variants.{First, Second}
 use Rattle.model.specs.Lists.{keepIf, keep, among, allDifferent, sum}
 use Rattle.model.specs.Profile.{hopCount, hopAt, hops, between, domains}
 use Rattle.model.specs.Sequence.{Stop, domainsOf}
-use Rattle.model.specs.Request.{Request, layoutOf, Accepted, Search, searchIn}
+use Rattle.model.specs.Request.{Request, layoutFor, Accepted, Search, searchIn}
 use Rattle.model.specs.Path.{Leg, legs}
 use Rattle.model.specs.Tree.{tally}
 use Rattle.model.specs.Rounds.{roundOf, searchOf, overRounds}
@@ -130,7 +130,7 @@ module _ (r : Request) (sequence : List Stop) (yes : Accepted r sequence) where
   one-round x =
       let different = meaning-different (domains (r .profile)) (r .ingress) (r .include) sequence (accepted-meaning r sequence yes) in
       let most = tally-of-search (searchIn x r sequence) different in
-      omega (arith, length-map-countFrom (hopAt (layoutOf r) (r .profile)) 0 (hopCount (r .profile)))
+      omega (arith, length-map-countFrom (hopAt (layoutFor r) (r .profile)) 0 (hopCount (r .profile)))
 
   -- both rounds count the same
   same-tally : (x y : Round) → tally (searchIn x r sequence) ≡ tally (searchIn y r sequence)

@@ -11,11 +11,12 @@ use Rattle.model.specs.declared.Hop.{Hop}
 use Rattle.model.specs.declared.TreeEntry.{TreeEntry}
 use Rattle.model.specs.Lists.{countFrom, each}
 use Rattle.model.specs.Request.{Search}
-use Rattle.model.specs.Path.{Leg, legs, legAt, noLeg, allowed, Route, extended, leaves, hopsFrom, routesIf, suffixes}
+use Rattle.model.specs.Path.{Leg, legs, legAt, noLeg, allowed, Route, extended, hopsFrom, routesIf, suffixes}
 use Rattle.model.specs.Tree.{entriesAt, suffixesAt, entry, tree}
-use Rattle.laws.proofs.Lists.{keep-mem, map-mem, mem-map, each-mem, mem-each, countFrom-mem, mem-countFrom}
+use Rattle.laws.proofs.Lists.{map-mem, mem-map, each-mem, mem-each, countFrom-mem, mem-countFrom}
 use Rattle.laws.proofs.PathsAreThePaths.{length-legs}
-use Rattle.laws.proofs.Reach.{Reach, unreached, arrived, leastFrom, reachIf, via, bestFrom, leastFrom-nil, leastFrom-one, leastFrom-reachable, leastFrom-unreached, leastFrom-some, leastFrom-at-most, leastFrom-extended, leastFrom-each, bestFrom-agree, bestFrom-keep}
+use Rattle.laws.specs.Reach.{Reach, unreached, arrived, leastFrom, reachIf, via, bestFrom, reachFrom}
+use Rattle.laws.proofs.Reach.{leastFrom-nil, leastFrom-one, leastFrom-reachable, leastFrom-unreached, leastFrom-some, leastFrom-at-most, leastFrom-extended, leastFrom-each, bestFrom-agree}
 
 -- ---- the entries
 
@@ -64,10 +65,6 @@ tree-complete S i a h m =
 
 -- ---- the step
 
--- the reach from the address a at place i over the legs left
-abbrev pub reachFrom : Search → List Leg → ℕ → ℕ → Reach
-reachFrom S ls i a = leastFrom (suffixes S ls i a)
-
 leastFrom-if : (b : Bool) (rs : List Route) → leastFrom (routesIf b rs) ≡ reachIf b (leastFrom rs)
 leastFrom-if true rs = refl
 leastFrom-if false rs = leastFrom-nil
@@ -94,23 +91,6 @@ step S leg rest i a =
     (λ (h : Hop). via (h .cost) (reachFrom S rest (suc i) (h .head .0)))
     (hopsFrom S leg a)
     (λ h m. leastFrom-extended a h (suffixes S rest (suc i) (h .head .0))))
-
--- the same over all hop records, where an engine knows the least costs at the heads of those that leave the address
-pub step-records
-    : (S : Search) (leg : Leg) (rest : List Leg) (i a : ℕ) (known : ℕ → Reach)
-    → ((h : Hop) → List·Memᴰ h (S .hops) → leaves S leg a h ≡ true → known (h .head .0) ≡ reachFrom S rest (suc i) (h .head .0))
-    → reachFrom S (leg ∷ rest) i a
-    ≡ reachIf (allowed S i a) (bestFrom unreached (λ (h : Hop). reachIf (leaves S leg a h) (via (h .cost) (known (h .head .0)))) (S .hops))
-unfolding hopsFrom
-step-records S leg rest i a known k =
-    step S leg rest i a
-    ∙ ap (reachIf (allowed S i a))
-    (bestFrom-agree unreached
-    (λ (h : Hop). via (h .cost) (reachFrom S rest (suc i) (h .head .0)))
-    (λ (h : Hop). via (h .cost) (known (h .head .0)))
-    (hopsFrom S leg a)
-    (λ h m. let r = keep-mem (leaves S leg a) (S .hops) m in ap (via (h .cost)) (sym (k h (r .0) (r .1))))
-    ∙ bestFrom-keep unreached (leaves S leg a) (λ (h : Hop). via (h .cost) (known (h .head .0))) (S .hops))
 
 -- ---- places of the sequence
 

@@ -1,19 +1,16 @@
 -- Checks one after the other (`model`'s Verdict): when they all pass, which refusal is the answer, and how the checks of n records split at record i.
 -- By cases on a verdict and recursion on the number of records.
 use Prim.Native.Nat.{ℕ, zero, suc, _+_, _-_, _≤_, _<_}
-use native.Mathlib.Nat.{add-zero, zero-add, add-suc, suc-add, add-sub-of-le, eq-or-lt-of-le}
+use native.Mathlib.Nat.{add-zero, zero-add, add-suc, suc-add, eq-or-lt-of-le}
 use native.Mathlib.Numerals.{add-one}
 use native.Mathlib.Omega.{arith}
 use mathlib.Core.Path.{_≡_, refl, sym, ap, _∙_}
 use mathlib.Core.Logic.{_↔_, ⊎-elim}
 use mathlib.Core.Bool.{Bool, true, false}
-use lib.Dec.{leb}
-use borrow.Author.Tests.{leb-true, leb-false}
 use Rattle.model.specs.declared.Refusal.{Refusal}
 use Rattle.model.specs.declared.Verdict.{Verdict}
 use Rattle.model.specs.declared.Verdict.the-variants.{Pass, Refuse}
 use Rattle.model.specs.Verdict.{refuseIf, _andThen_, inTurn}
-use Rattle.laws.proofs.Tests.{decide}
 
 pub refuse-not-pass : (r : Refusal) → Refuse r ≡ Pass → ⊥
 refuse-not-pass r e = let z : _≡_ {A = ℕ} 0 1 = cc in omega arith
@@ -39,10 +36,6 @@ refused-first a b r e = ap (λ (v : Verdict). v andThen b) e
 pub andThen-refuseIf : (v : Verdict) (b : Bool) (n p : ℕ) → (v andThen refuseIf b n p ≡ Pass) ↔ ((v ≡ Pass) × (b ≡ false))
 andThen-refuseIf Pass b n p = (λ e. (refl, refuseIf-pass b n p .0 e), λ e. refuseIf-pass b n p .1 (e .1))
 andThen-refuseIf (Refuse r) b n p = (λ e. absurd (refuse-not-pass r e), λ e. e .0)
-
-pub andThen-assoc : (a b c : Verdict) → a andThen b andThen c ≡ a andThen (b andThen c)
-andThen-assoc Pass b c = refl
-andThen-assoc (Refuse r) b c = refl
 
 module _ (check : ℕ → Verdict) where
   -- the first of the records, and then the others
@@ -84,30 +77,6 @@ module _ (check : ℕ → Verdict) where
 
   pub inTurn-pass-all : (n : ℕ) → (inTurn check 0 n ≡ Pass) ↔ ((j : ℕ) → j < n → check j ≡ Pass)
   inTurn-pass-all n = (λ e j q. inTurn-each 0 n e j (omega arith) (omega arith), λ h. inTurn-pass 0 n .1 (λ j p q. h j (omega arith)))
-
-  -- so a loop that has passed the first i has the others before it
-  pub inTurn-from : (i n : ℕ) → ((j : ℕ) → j < i → check j ≡ Pass) → inTurn check 0 n ≡ inTurn check i (n - i)
-  inTurn-from i n passed =
-      ⊎-elim
-      (λ (t : leb i n ≡ true).
-      ap (inTurn check 0) (sym (add-sub-of-le (leb-true i n t)))
-      ∙ inTurn-skip 0 i (n - i) (λ j p q. passed j (omega arith))
-      ∙ ap (λ (k : ℕ). inTurn check k (n - i)) (zero-add i))
-      (λ (f : leb i n ≡ false).
-      let late = leb-false i n f in
-      inTurn-pass-all n .1 (λ j q. passed j (omega arith)) ∙ sym (inTurn-none i n (omega arith)))
-      (decide (leb i n))
-
-  -- the first record that is refused gives the answer
-  pub inTurn-refuse : (k n : ℕ) (r : Refusal) → k < n → ((j : ℕ) → j < k → check j ≡ Pass) → check k ≡ Refuse r → inTurn check 0 n ≡ Refuse r
-  inTurn-refuse k n r h passed refused =
-      inTurn-from k n passed ∙ inTurn-next k n h ∙ ap (λ (v : Verdict). v andThen inTurn check (suc k) (n - suc k)) refused
-
--- checks that agree on each record agree in turn
-pub inTurn-cong : (f g : ℕ → Verdict) (i n : ℕ) → ((j : ℕ) → i ≤ j → j < i + n → f j ≡ g j) → inTurn f i n ≡ inTurn g i n
-unfolding inTurn
-inTurn-cong f g i zero h = refl
-inTurn-cong f g i (suc n) h = rw (h i (omega arith) (omega arith), inTurn-cong f g (suc i) n (λ j p q. h j (omega arith) (omega arith)))
 
 -- the step of a loop: the record whose turn it is passes, or is refused
 pub turn-passed : (check : ℕ → Verdict) (i n : ℕ) → i < n → check i ≡ Pass → inTurn check i (n - i) ≡ inTurn check (i + 1) (n - (i + 1))

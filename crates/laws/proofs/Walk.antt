@@ -17,6 +17,7 @@ use Rattle.model.specs.declared.Verdict.the-variants.{Pass, Refuse}
 use Rattle.model.specs.Lists.{all, any}
 use Rattle.model.specs.Verdict.{_andThen_}
 use Rattle.model.specs.Subobject.{LengthRule, lengthRules, roundedUp, known, lengthFits, topAt, typeAt, lengthAt, areaLengthAt, topWrong, prefixWrong, paddingWrong, subobjectVerdict, Subobject, subobjectAt, formFrom, formVerdict, subobjectsFrom, subobjects}
+use Rattle.laws.specs.Left.{formLeft, subobjectsLeft}
 use Rattle.laws.proofs.Tests.{decide, and-both}
 use Rattle.laws.proofs.Lists.{all-mem, any-mem}
 use Rattle.laws.proofs.Turns.{andThen-pass, andThen-refuseIf, refuseIf-pass}
@@ -150,12 +151,6 @@ subobjectsFrom-fuel (suc m) (suc n) k s at h g e =
 
 -- ---- what is left from an offset on
 
-abbrev pub formLeft : ListKind → List ℕ → ℕ → Verdict
-formLeft k s at = formFrom (length s - at) k s at
-
-abbrev pub subobjectsLeft : List ℕ → ℕ → List Subobject
-subobjectsLeft s at = subobjectsFrom (length s - at) s at
-
 -- at the start it is the whole list
 pub form-whole : (k : ListKind) (s : List ℕ) → formLeft k s 0 ≡ formVerdict k s
 unfolding formVerdict
@@ -191,10 +186,6 @@ module _ (k : ListKind) (s : List ℕ) (at : ℕ) (h : at < length s) where
 
     pub right-here : subobjectVerdict k s at ≡ Pass
     right-here = both .0
-
-    -- the next offset is inside the list or its end, so the walk ends exactly there
-    pub next-inside : at + lengthAt s at ≤ length s
-    next-inside = (right-subobject k s at right-here) .whole
 
     pub right-next : formLeft k s (at + lengthAt s at) ≡ Pass
     right-next = both .1

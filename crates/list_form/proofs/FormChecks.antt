@@ -13,12 +13,12 @@ use Rattle.model.specs.declared.Verdict.the-variants.{Pass}
 use Rattle.model.specs.Verdict.{refuseIf, _andThen_}
 use Rattle.model.specs.Bytes.{part, allZero}
 use Rattle.model.specs.Subobject.{subobjectVerdict, lengthFits, topWrong, prefixWrong, paddingWrong, typeAt, topAt, lengthAt, areaLengthAt}
-use Rattle.subobject.specs.Items.{Readable}
+use Rattle.list_subobject.specs.Items.{Readable}
 use Rattle.refusal.specs.Refused.{refusal}
 use Rattle.list_form.specs.Checks.{headWrong, fieldWrong, zeroFrom}
-use Rattle.subobject.specs.Lengths.{lengthOf}
-use Rattle.subobject.proofs.FormLaws.{padded}
-use Rattle.subobject.proofs.LengthLaws.{known-length, fits-length}
+use Rattle.list_subobject.specs.Lengths.{lengthOf}
+use Rattle.list_subobject.proofs.FormLaws.{padded}
+use Rattle.list_subobject.proofs.LengthLaws.{known-length, fits-length}
 
 -- ---- the checks as the code makes them: those of the first three bytes together, as one number
 

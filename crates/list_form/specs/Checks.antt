@@ -6,7 +6,7 @@ use lib.Dec.{eqb, leb}
 use Rattle.model.specs.declared.ListKind.{ListKind}
 use Rattle.model.specs.Bytes.{part, allZero}
 use Rattle.model.specs.Subobject as M
-use Rattle.subobject.specs.Lengths.{lengthOf}
+use Rattle.list_subobject.specs.Lengths.{lengthOf}
 
 abbrev pub zeroFrom : List ℕ → ℕ → ℕ → Bool
 zeroFrom s from to = allZero (part s from (to - from))

@@ -5,13 +5,13 @@ ghost use lib.ListN.{length};
 ghost use lib.Dec.{eqb, leb};
 ghost use mathlib.Core.Bool.{not, _&&_};
 ghost use Rattle.model.specs.Subobject.{roundedUp, formVerdict, subobjectVerdict, topWrong, prefixWrong};
-ghost use Rattle.subobject.specs.Lengths.{lengthOf};
-ghost use Rattle.subobject.specs.Items.{Readable};
+ghost use Rattle.list_subobject.specs.Lengths.{lengthOf};
+ghost use Rattle.list_subobject.specs.Items.{Readable};
 ghost use Rattle.list_form.specs.Checks.{zeroFrom, headWrong, fieldWrong};
+use list_subobject::walk::next_after;
 use model::ListKind;
 use model::Verdict;
 use refusal::refuse_at;
-use subobject::walk::next_after;
 use wire::wide;
 
 // An area's length rounded up to 4.

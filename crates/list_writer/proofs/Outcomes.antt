@@ -21,7 +21,7 @@ use Rattle.model.specs.WrittenList.{stops, written, unwritable}
 use Rattle.model.specs.Answers.{numbersOfWrite, refused2, done2}
 use Rattle.model.specs.Calls.{Outcome, nothing, answerWrite, writeList}
 use Rattle.laws.proofs.Lists.{over-nothing}
-use Rattle.list_parts.specs.Placed.{Put}
+use Rattle.buffers.specs.Placed.{Put}
 use Rattle.list_writer.specs.Writing.{Writable, AllPut, allIf, allOrNone, WrittenBy}
 
 -- a refusal that has place 0

@@ -15,10 +15,11 @@ use Rattle.model.specs.WrittenList.{writtenPin, pinIf, systemIf, systemAfter, w
 use Rattle.laws.proofs.Accepted.{AcceptedProfile, accepted}
 use Rattle.laws.proofs.Records.{length-domains, domain-at}
 use Rattle.laws.proofs.Stops.{written-at, written-end, Accepts, accepts, domain-inside}
-use Rattle.list_parts.specs.Placed.{Put, AreaRight}
+use Rattle.buffers.specs.Placed.{Put}
+use Rattle.list_writer.specs.Writing.{AreaRight}
 use Rattle.list_writer.specs.Writing.{beforeOf, systemAgain, Writable}
-use Rattle.list_parts.proofs.Places.{placed-take}
-use Rattle.list_parts.proofs.Parts.{pin-length, system-length, area-length}
+use Rattle.buffers.proofs.Places.{placed-take}
+use Rattle.list_writer.proofs.WrittenParts.{pin-length, system-length, area-length}
 
 -- the bytes of a stop, in the code's terms
 abbrev pub stopBytes : ℕ → ℕ → Bool → Domain → List ℕ

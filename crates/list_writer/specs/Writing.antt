@@ -6,13 +6,19 @@ use mathlib.Core.Option.{Option, none, some}
 use Prim.Native.Nat.{ℕ, zero, suc, _≤_}
 use lib.Dec.{eqb, leb}
 use lib.ListN.{length, take}
+use Rattle.model.specs.declared.Domain.{Domain}
 use Rattle.model.specs.declared.Verdict.the-variants.{Pass}
 use Rattle.model.specs.declared.WriteAnswer.{WriteAnswer}
 use Rattle.model.specs.Lists.{over}
-use Rattle.model.specs.Profile.{version1, profileVerdict, domains}
+use Rattle.model.specs.Profile.{version1, areaLengthFits, profileVerdict, domains}
 use Rattle.model.specs.WrittenList.{stops, written, unwritable}
 use Rattle.model.specs.Answers.{numbersOfWrite}
 use Rattle.model.specs.Calls.{writeList}
+
+-- what an accepted domain record holds of its area: a length of its kind, and room for 13 bytes
+pub record AreaRight (d : Domain) : Type 0 where
+  pub fits : areaLengthFits (d .kind) (d .length) ≡ true
+  pub whole : length (d .area) ≡ 13
 
 -- the AS of the domain before, which the first has not
 abbrev pub beforeOf : ℕ → ℕ → Option ℕ

@@ -1,21 +1,20 @@
 // `write_list`: the list of a sequence of domains and their entry constraints.
 ghost use mathlib.Core.Path.{_≡_};
-ghost use Prim.Native.Nat.{_+_, _-_, _≤_, _<_};
-ghost use lib.ListN.{length, take};
+ghost use Prim.Native.Nat.{_+_, _-_, _<_};
+ghost use lib.ListN.{length};
 ghost use Rattle.model.specs.declared.Verdict.the-variants.{Pass};
-ghost use Rattle.model.specs.Lists.{over};
 ghost use Rattle.model.specs.Profile.{version1, profileVerdict, domains};
 ghost use Rattle.list_writer.specs.Writing.{systemAgain, Writable, AllPut, allOrNone, WrittenBy};
-use list_parts::put_bytes;
-use list_parts::put_stop;
+use crate::parts::put_stop;
+use crate::writable::unwritable;
+use buffers::put_bytes;
 use model::DomainIndex;
 use model::NodeAddress;
 use model::Refusal;
 use model::Verdict;
 use model::WriteAnswer;
-use profile::verdict_on;
-use records::domain::domain_at;
-use writable::unwritable;
+use profile_check::verdict_on;
+use profile_records::domain::domain_at;
 
 // Domain i is not the first, and its AS is the one before.
 fn same_system(i: usize, before: u32, asn: u32) -> bool

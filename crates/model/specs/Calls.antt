@@ -1,14 +1,12 @@
 -- For each public call its whole outcome as a function of its inputs and of the capacity of what is lent to it: the numbers that it answers, and what it
 -- writes at the start of each lent buffer (nothing on a refusal). Document 01, "Numbers the calculator gives". Capacity is document 01's "room".
-use Prim.Native.Nat.{ℕ, zero, suc, min}
-use mathlib.Core.Bool.{Bool, true, false, not}
-use mathlib.Core.List.{List, [], _∷_, map}
+use Prim.Native.Nat.{ℕ, suc}
+use mathlib.Core.Bool.{not}
+use mathlib.Core.List.{List, [], _∷_}
 use mathlib.Core.Option.{Option, none, some}
 use lib.ListN.{length}
 use lib.Dec.{eqb, ltb}
 use lib.Ieee.{binary32, toBits}
-use Rattle.model.specs.declared.Refusal.{Refusal}
-use Rattle.model.specs.declared.Domain.{Domain}
 use Rattle.model.specs.declared.Round.{Round}
 use Rattle.model.specs.declared.Verdict.{Verdict}
 use Rattle.model.specs.declared.Verdict.the-variants.{Pass, Refuse}
@@ -111,7 +109,7 @@ buildTree r room = treeInto r (sequenceOf r) room
 
 -- ---- first and next: the request's checks, for next 33, then 34, then the search of the round that applies
 
--- a path of a round: its addresses, and its total as a whole number and as the float of exactly that value
+-- a path of a round: its addresses, and its total as a whole number and as the nearest float
 abbrev pub found : Round → Route → Outcome ℕ
 found x p = record { numbers = done4 (p .total) (toBits binary32 (floatOf (p .total))) x; written = p .addresses }
 

@@ -29,8 +29,8 @@ pub record Request : Type 0 where
   pub limits : Limits
 
 -- the layout of the request's profile
-abbrev pub layoutOf : Request → Layout
-layoutOf r = version1
+abbrev pub layoutFor : Request → Layout
+layoutFor r = version1
 
 -- limits given by bits
 abbrev pub limitsOfBits : ℕ → Bool → ℕ → Limits
@@ -59,7 +59,7 @@ provided (Refuse r) reading = refused r
 
 unfoldable pub requestVerdict : Request → Verdict
 requestVerdict r =
-    profileVerdict (layoutOf r) (r .profile)
+    profileVerdict (layoutFor r) (r .profile)
     andThen ingressVerdict (r .profile) (r .ingress)
     andThen limitsVerdict (r .limits)
     andThen sizeVerdict (r .include) 0
@@ -91,7 +91,7 @@ unfoldable pub searchIn : Round → Request → List Stop → Search
 searchIn x r sequence =
     record {
       domains = domains (r .profile);
-      hops = hops (layoutOf r) (r .profile);
+      hops = hops (layoutFor r) (r .profile);
       sequence = sequence;
       exclusions = inForce x (subobjects (r .exclude));
       source = r .source;

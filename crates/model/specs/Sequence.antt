@@ -1,6 +1,6 @@
 -- What an include list means: the sequence of domains and their entry constraints, or the refusal (28 to 32). Document 01, "Include list".
 -- An entry constraint is document 01's "pin": the node by which a path must enter a domain.
-use Prim.Native.Nat.{ℕ, zero, suc}
+use Prim.Native.Nat.{ℕ}
 use mathlib.Core.Bool.{Bool, true, false, _&&_}
 use mathlib.Core.List.{List, [], _∷_, _++_, map}
 use mathlib.Core.Option.{Option, none, some}

@@ -1,6 +1,6 @@
 -- A series of calls for first and next, and what it must answer, `replies`: document 01's "book", here the reference series, or a refusal. Beside it the run
 -- that really makes the calls, each next given the path last written. That the two agree for every request is the law `series-replies`.
-use Prim.Native.Nat.{ℕ, zero, suc}
+use Prim.Native.Nat.{ℕ, suc}
 use mathlib.Core.Bool.{Bool, true, false}
 use mathlib.Core.List.{List, [], _∷_, map}
 use lib.ListN.{length, getD}

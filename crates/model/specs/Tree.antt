@@ -1,9 +1,8 @@
 -- The backward tree (RFC 5441's virtual shortest path tree) and its tally: document 01, "Paths and the tree".
 use Prim.Native.Nat.{ℕ, zero, suc}
-use mathlib.Core.Bool.{Bool, not}
+use mathlib.Core.Bool.{not}
 use mathlib.Core.List.{List, [], _∷_, map}
 use lib.ListN.{length, drop}
-use Rattle.model.specs.declared.Hop.{Hop}
 use Rattle.model.specs.declared.TreeEntry.{TreeEntry}
 use Rattle.model.specs.Lists.{countFrom, each, isEmpty, keep, least, sum}
 use Rattle.model.specs.Profile.{between, entryNodes}

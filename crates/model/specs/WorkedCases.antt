@@ -1,11 +1,11 @@
 -- Profile W, the second profile of document 01's examples, and every starred case of its section "Profile W and what it gives": one table of rows
 -- (call, inputs, the whole outcome); two more tables with cases of document 02's requests [1] and [4] on W, worked out by hand; and one theorem, that each
 -- row of all holds, computed from the bytes up.
-use Prim.Native.Nat.{ℕ, zero, suc, _+_, _-_, _*_, _/_, _%_, _^_}
+use Prim.Native.Nat.{ℕ, zero, suc, _+_, _-_}
 use mathlib.Core.Path.{_≡_, refl}
-use mathlib.Core.Bool.{Bool, true, false}
+use mathlib.Core.Bool.{true, false}
 use mathlib.Core.List.{List, [], _∷_, _++_, map}
-use mathlib.Core.Option.{Option, none, some}
+use mathlib.Core.Option.{none}
 use lib.ListN.{take, drop}
 use lib.Ieee.{binary32, ofBits, toBits, ofFields, odd, size, span, climb, ofInt, round, isNan}
 use lib.Ieee as Ieee

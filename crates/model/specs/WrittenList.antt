@@ -1,15 +1,15 @@
 -- The list that is written for a sequence, and when a sequence can be written: document 01, "Written list", and its number 35.
 use Prim.Native.Nat.{ℕ, zero, suc, _+_, _-_}
-use mathlib.Core.Bool.{Bool, true, false, not, _&&_, _||_}
+use mathlib.Core.Bool.{Bool, true, false, not, _||_}
 use mathlib.Core.List.{List, [], _∷_, _++_}
 use mathlib.Core.Option.{Option, none, some}
 use lib.ListN.{length, take, replicate}
 use lib.Dec.{eqb, leb, ltb}
 use Rattle.model.specs.declared.Domain.{Domain}
-use Rattle.model.specs.Lists.{all, any, allDifferent}
+use Rattle.model.specs.Lists.{any, allDifferent}
 use Rattle.model.specs.Bytes.{bytesOf}
 use Rattle.model.specs.Subobject.{roundedUp}
-use Rattle.model.specs.Sequence.{Stop, domainOf, domainsOf}
+use Rattle.model.specs.Sequence.{Stop, domainOf}
 
 -- ---- the subobjects that are written; top bits and ignored bytes are 0
 

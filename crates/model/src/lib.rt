@@ -92,7 +92,7 @@ pub enum TreeAnswer {
 }
 
 pub enum PathAnswer {
-    // A path's total as a whole number and as the float of exactly that value.
+    // A path's total as a whole number and as the nearest float.
     Found {
         total: u32,
         float: f32,

@@ -1,8 +1,8 @@
 -- What a call for a path gives by value, case by case of its outcome: a refusal, no path, a path. From the laws that an answer goes by the first path alone.
-use mathlib.Core.Path.{_≡_, refl, sym, ap, ap₂, _∙_}
+use mathlib.Core.Path.{_≡_, refl, sym, ap, _∙_}
 use mathlib.Core.Bool.{Bool, true, false, not}
 use mathlib.Core.List.{List, [], _∷_, head?}
-use mathlib.Core.Option.{none, some}
+use mathlib.Core.Option.{none}
 use Prim.Native.Nat.{ℕ, suc, _≤_, _<_}
 use native.Mathlib.Omega.{arith}
 use lib.Dec.{ltb}
@@ -16,14 +16,13 @@ use Rattle.model.specs.Floats.{inRange, floatOf}
 use Rattle.model.specs.Request.{Search}
 use Rattle.model.specs.Path.{Route, shortestPaths}
 use Rattle.model.specs.Answers.{refused4, done4, plain4, numbersOfPath}
-use Rattle.model.specs.Calls.{Outcome, nothing, found, firstOf, greaterThan}
+use Rattle.model.specs.Calls.{Outcome, nothing, firstOf, greaterThan}
 use Rattle.laws.proofs.Tests.{and-both}
 use Rattle.laws.proofs.Split.{answer-some, answer-none}
-use Rattle.path_search.specs.declared.Sought.{Sought}
+use Rattle.path_answers.specs.declared.SearchResult.{SearchResult}
 use Rattle.path_answers.specs.Numbers.{fiveOf}
-use Rattle.path_answers.specs.declared.Routed.{Routed}
-use Rattle.path_search.specs.Sought.{SoughtPath, SoughtIs}
-use Rattle.path_answers.specs.Routed.{noneAnswer, noneNumber, RoutedBy}
+use Rattle.path_answers.specs.SearchResult.{ResultPath}
+use Rattle.path_answers.specs.PathReply.{noneAnswer, noneNumber, ReplyIs}
 
 -- no path is found in a refusal, or in the answer that there is none
 not-found : (r : Refusal) (total : ℕ) (x : Float) (round : Round) → Refused r ≡ Found total x round → ⊥
@@ -33,7 +32,7 @@ none-not-found : (again : Bool) (total : ℕ) (x : Float) (round : Round) → no
 none-not-found true total x round e = let z : _≡_ {A = ℕ} 0 1 = cc in omega arith
 none-not-found false total x round e = let z : _≡_ {A = ℕ} 0 1 = cc in omega arith
 
-pub refused-by : (r : Refusal) (room : ℕ) (path : List ℕ) → length path ≡ 17 → RoutedBy (nothing (refused4 r)) room (record { answer = Refused r; count = 0; path = path })
+pub refused-by : (r : Refusal) (room : ℕ) (path : List ℕ) → length path ≡ 17 → ReplyIs (nothing (refused4 r)) room (record { answer = Refused r; count = 0; path = path })
 refused-by r room path long =
     record {
       numbers-are = refl;
@@ -50,7 +49,7 @@ none-numbers false = refl
 
 pub none-by
     : (round : Round) (again : Bool) (answer : PathAnswer) (ps : List Route) (room : ℕ) (path : List ℕ) → answer ≡ noneAnswer again → head? ps ≡ none → length path ≡ 17
-    → RoutedBy (firstOf round (noneNumber again) ps) room (record { answer = answer; count = 0; path = path })
+    → ReplyIs (firstOf round (noneNumber again) ps) room (record { answer = answer; count = 0; path = path })
 none-by round again answer ps room path is e long =
     let o = answer-none round (noneNumber again) ps e in
     record {
@@ -74,9 +73,9 @@ no-nan x t = go (isNan x) (and-both (not (isNan x)) (ltb (toBits binary32 x) 0x7
     go false e = refl
 
 pub found-by
-    : (number : ℕ) (S : Search) (given : List ℕ) (count count′ room : ℕ) (sought : Sought) (x : Float)
-    → SoughtPath S given (suc count) sought → length (sought .path) ≡ 17 → count < 17 → suc count ≤ room → count′ ≡ suc count → x ≡ floatOf (sought .total) → inRange x ≡ true
-    → RoutedBy (firstOf (sought .round) number (greaterThan given (shortestPaths S))) room (record { answer = Found (sought .total) x (sought .round); count = count′; path = sought .path })
+    : (number : ℕ) (S : Search) (given : List ℕ) (count count′ room : ℕ) (sought : SearchResult) (x : Float)
+    → ResultPath S given (suc count) sought → length (sought .path) ≡ 17 → count < 17 → suc count ≤ room → count′ ≡ suc count → x ≡ floatOf (sought .total) → inRange x ≡ true
+    → ReplyIs (firstOf (sought .round) number (greaterThan given (shortestPaths S))) room (record { answer = Found (sought .total) x (sought .round); count = count′; path = sought .path })
 found-by number S given count count′ room sought x p long few fits is float right =
     let o = answer-some (sought .round) number (greaterThan given (shortestPaths S)) (p .first) in
     record {

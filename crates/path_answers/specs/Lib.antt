@@ -1,2 +1,3 @@
 pub mod Numbers
-pub mod Routed
+pub mod PathReply
+pub mod SearchResult

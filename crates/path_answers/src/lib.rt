@@ -2,7 +2,7 @@
 use bound::total_float;
 use model::PathAnswer;
 use model::Refusal;
-use path_search::Sought;
+use model::Round;
 ghost use mathlib.Core.Path.{_≡_};
 ghost use mathlib.Core.List.{List};
 ghost use Prim.Native.Nat.{ℕ, suc, _≤_, _<_};
@@ -10,31 +10,39 @@ ghost use Rattle.model.specs.Request.{Search};
 ghost use Rattle.model.specs.Path.{shortestPaths};
 ghost use Rattle.model.specs.Answers.{refused4};
 ghost use Rattle.model.specs.Calls.{nothing, firstOf, greaterThan};
-ghost use Rattle.path_search.specs.Sought.{SoughtIs};
-ghost use Rattle.path_answers.specs.Routed.{noneAnswer, noneNumber, RoutedBy};
+ghost use Rattle.path_answers.specs.SearchResult.{ResultIs};
+ghost use Rattle.path_answers.specs.PathReply.{noneAnswer, noneNumber, ReplyIs};
 
 pub mod numbers;
 
+// What a search finds, whatever the engine: the round that applies, and a path found in it, its total, and its addresses at the start of `path`.
+pub struct SearchResult {
+    pub round: Round,
+    pub found: bool,
+    pub total: u32,
+    pub path: [u32; 17],
+}
+
 // What a call for a path answers, and the path: the first `count` addresses of `path`.
-pub struct Routed {
+pub struct PathReply {
     pub answer: PathAnswer,
     pub count: usize,
     pub path: [u32; 17],
 }
 
 // No path, and why.
-pub fn refused(r: Refusal) -> Routed
-    ensures { λ x. ⌜ ((room : ℕ) → RoutedBy (nothing (refused4 r)) room x) ⌝ }
+pub fn refused(r: Refusal) -> PathReply
+    ensures { λ x. ⌜ ((room : ℕ) → ReplyIs (nothing (refused4 r)) room x) ⌝ }
 {
-    Routed {
+    PathReply {
         answer: PathAnswer::Refused(r),
         count: 0,
         path: [0u32; 17],
     }
 }
 
-pub fn refused_by(number: u32) -> Routed
-    ensures { λ x. ⌜ ((room : ℕ) → RoutedBy (nothing (refused4 (record { number = number; place = 0 }))) room x) ⌝ }
+pub fn refused_by(number: u32) -> PathReply
+    ensures { λ x. ⌜ ((room : ℕ) → ReplyIs (nothing (refused4 (record { number = number; place = 0 }))) room x) ⌝ }
 {
     refused(Refusal { number, place: 0 })
 }
@@ -50,13 +58,13 @@ fn none_answer(again: bool) -> PathAnswer
 }
 
 // The path found, or the answer that there is none.
-pub fn answered(sought: Sought, count: usize, again: bool) -> Routed
+pub fn answered(sought: SearchResult, count: usize, again: bool) -> PathReply
     requires { ⌜ count < 17 ⌝ }
-    ensures { λ x. ⌜ ((S : Search) (given : List ℕ) (room : ℕ) → SoughtIs S given (suc count) sought → suc count ≤ room → RoutedBy (firstOf (sought .round) (noneNumber again) (greaterThan given (shortestPaths S))) room x) ⌝ }
+    ensures { λ x. ⌜ ((S : Search) (given : List ℕ) (room : ℕ) → ResultIs S given (suc count) sought → suc count ≤ room → ReplyIs (firstOf (sought .round) (noneNumber again) (greaterThan given (shortestPaths S))) room x) ⌝ }
 {
     let path = sought.path;
     if !sought.found {
-        return Routed {
+        return PathReply {
             answer: none_answer(again),
             count: 0,
             path,
@@ -65,7 +73,7 @@ pub fn answered(sought: Sought, count: usize, again: bool) -> Routed
     let total = sought.total;
     let float = total_float(total);
     let round = sought.round;
-    Routed {
+    PathReply {
         answer: PathAnswer::Found {
             total,
             float,

@@ -20,31 +20,33 @@ use Rattle.laws.proofs.HopKeys.{SortedHops}
 use Rattle.laws.proofs.HopOrder.{hops-sorted}
 use Rattle.laws.proofs.PathsAreThePaths.{length-legs}
 use Rattle.laws.proofs.Suffixes.{suffix-length}
-use Rattle.laws.proofs.Firsts.{optionIf, head?-mem}
-use Rattle.laws.proofs.TreeLeast.{reachFrom}
+use Rattle.laws.specs.Descent.{optionIf, nextFrom}
+use Rattle.laws.proofs.Firsts.{head?-mem}
+use Rattle.laws.specs.Reach.{reachFrom}
 use Rattle.laws.proofs.Cheapest.{cheapest-mem, cheapest-nil}
-use Rattle.laws.proofs.NextSplit.{nextFrom, next-split, next-total, next-shortest}
-use Rattle.records.specs.Layout.{Sound}
+use Rattle.laws.proofs.NextSplit.{next-split, next-total, next-shortest}
+use Rattle.profile_records.specs.Layout.{SoundLayout}
 use Rattle.request.specs.declared.Query.{Query}
 use Rattle.request.specs.Query.{searchFor, roundFor, Ready}
 use Rattle.request.proofs.Requests.{ready-in}
-use Rattle.reaches.specs.Reaches.{unreachable, codeAt}
-use Rattle.vspt.specs.Tree.{WorkedOut}
-use Rattle.vspt.proofs.Filled.{pasted}
-use Rattle.vspt.proofs.Sequences.{stops-long}
-use Rattle.bound.specs.Kept.{keptBy}
-use Rattle.rounds.specs.declared.Settled.{Settled}
-use Rattle.rounds.specs.Settled.{SettledIs}
-use Rattle.rounds.proofs.Source.{cost-is, small, none-admissible}
-use Rattle.onward.specs.Worked.{Worked, Stands}
-use Rattle.descent.specs.Routes.{isFound, routed, Written}
-use Rattle.path_search.specs.declared.Sought.{Sought}
-use Rattle.path_search.specs.Sought.{SoughtPath, SoughtIs, SoughtFor}
+use Rattle.tree_reaches.specs.Reaches.{unreachable, codeAt}
+use Rattle.tree_vspt.specs.Tree.{WorkedOut}
+use Rattle.tree_vspt.proofs.Filled.{pasted}
+use Rattle.tree_vspt.proofs.Sequences.{stops-long}
+use Rattle.tree_rounds.specs.Kept.{keptBy}
+use Rattle.tree_rounds.specs.declared.ChosenRound.{ChosenRound}
+use Rattle.tree_rounds.specs.ChosenRound.{ChosenRoundIs}
+use Rattle.tree_rounds.proofs.Source.{cost-is, small, none-admissible}
+use Rattle.path_step.specs.Worked.{Worked, Stands}
+use Rattle.path_descent.specs.Routes.{isFound, routed, Written}
+use Rattle.path_answers.specs.declared.SearchResult.{SearchResult}
+use Rattle.path_answers.specs.SearchResult.{ResultPath, ResultIs}
+use Rattle.path_search.specs.Searched.{ResultFor}
 
 -- what was worked out for a ready query
 pub worked-for
     : (L : Layout) (s exclude : List ℕ) (q : Query) (addresses codes starts firsts lasts : List ℕ) (examined : ℕ)
-    → Sound L → L .mostCost ≤ costLimit → ((i : ℕ) → getD s i 0 < 256) → Ready L s exclude q
+    → SoundLayout L → L .mostCost ≤ costLimit → ((i : ℕ) → getD s i 0 < 256) → Ready L s exclude q
     → WorkedOut L s (searchFor L s exclude q) addresses codes starts firsts lasts examined
     → Worked (searchFor L s exclude q) L s q addresses codes starts firsts lasts
 worked-for L s exclude q addresses codes starts firsts lasts examined sound cheap bytes ready out =
@@ -116,7 +118,7 @@ module _ (L : Layout) (s exclude : List ℕ) (q : Query) (cheap : L .mostCost �
       pub sought
           : (old : List ℕ) (found : Bool) (path : List ℕ) → length old ≡ 17
           → Written 0 (nextFrom S (legs (S .sequence)) 0 (S .source) given) old found path
-          → SoughtIs S given (suc (q .count)) (record { round = q .round; found = found; total = here; path = path })
+          → ResultIs S given (suc (q .count)) (record { round = q .round; found = found; total = here; path = path })
       sought old found path cells w =
           record {
             there = λ t. there-is (nextFrom S (legs (S .sequence)) 0 (S .source) given) refl (sym (w .says) ∙ t);
@@ -134,7 +136,7 @@ module _ (L : Layout) (s exclude : List ℕ) (q : Query) (cheap : L .mostCost �
 
           there-is
               : (o : Option Route) → nextFrom S (legs (S .sequence)) 0 (S .source) given ≡ o → isFound o ≡ true
-              → SoughtPath S given (suc (q .count)) (record { round = q .round; found = found; total = here; path = path })
+              → ResultPath S given (suc (q .count)) (record { round = q .round; found = found; total = here; path = path })
           there-is none e t = absurd (true≢false (sym t))
           there-is (some r) e t =
               record {
@@ -148,7 +150,7 @@ module _ (L : Layout) (s exclude : List ℕ) (q : Query) (cheap : L .mostCost �
               }
 
 -- a query whose round is settled: what is found for it is what is sought for the given one
-module _ (L : Layout) (s exclude : List ℕ) (q : Query) (addresses codes starts firsts lasts : List ℕ) (r : Settled) (is : SettledIs L s exclude q addresses codes starts firsts lasts r) where
+module _ (L : Layout) (s exclude : List ℕ) (q : Query) (addresses codes starts firsts lasts : List ℕ) (r : ChosenRound) (is : ChosenRoundIs L s exclude q addresses codes starts firsts lasts r) where
   pub ready-settled : Ready L s exclude q → Ready L s exclude (r .query)
   ready-settled ready = subst (Ready L s exclude) (sym (is .query-is)) (ready-in (roundFor L s exclude q) q ready)
 
@@ -156,9 +158,9 @@ module _ (L : Layout) (s exclude : List ℕ) (q : Query) (addresses codes starts
   fits-settled given h = subst (λ (p : Query). 1 ≤ length given → length given ≡ suc (p .count)) (sym (is .query-is)) h
 
   pub sought-for
-      : (given : List ℕ) (x : Sought) → x .round ≡ r .query .round → SoughtIs (searchFor L s exclude (r .query)) given (suc (r .query .count)) x → SoughtFor L s exclude q given x
+      : (given : List ℕ) (x : SearchResult) → x .round ≡ r .query .round → ResultIs (searchFor L s exclude (r .query)) given (suc (r .query .count)) x → ResultFor L s exclude q given x
   sought-for given x round found =
       record {
         round-is = round ∙ ap (λ (p : Query). p .round) (is .query-is);
-        is = subst (λ (p : Query). SoughtIs (searchFor L s exclude p) given (suc (p .count)) x) (is .query-is) found;
+        is = subst (λ (p : Query). ResultIs (searchFor L s exclude p) given (suc (p .count)) x) (is .query-is) found;
       }

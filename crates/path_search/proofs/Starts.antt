@@ -1,20 +1,19 @@
 -- How a given list starts, by the tests of the code. By the cases of the list.
-use mathlib.Core.Path.{_≡_, refl, sym, ap, ap₂, _∙_}
+use mathlib.Core.Path.{_≡_, refl, sym, ap, ap₂}
 use mathlib.Core.Bool.{Bool, true, false}
 use mathlib.Core.List.{List, [], _∷_}
 use mathlib.Core.Option.{Option, none}
-use Prim.Native.Nat.{ℕ, suc, _≤_, _<_}
+use Prim.Native.Nat.{ℕ, _≤_, _<_}
 use native.Mathlib.Omega.{arith}
 use lib.Dec.{eqb, ltb}
 use lib.ListN.{length, getD, drop}
 use borrow.Author.Tests.{eq-eqb, ne-eqb, lt-ltb, le-ltb}
 use Rattle.model.specs.Request.{Search}
 use Rattle.model.specs.Path.{Leg, Route}
-use Rattle.laws.proofs.Split.{firstFrom}
-use Rattle.laws.proofs.NextSplit.{nextAfter, nextBy, nextFrom}
+use Rattle.laws.specs.Descent.{firstFrom, nextAfter, nextBy, nextFrom}
 use Rattle.path_search.specs.declared.Start.{Start}
 use Rattle.path_search.specs.declared.Start.the-variants.{Before, Same, Behind}
-use Rattle.path_search.specs.Sought.{startIf, startOf}
+use Rattle.path_search.specs.Searched.{startIf, startOf}
 
 pub start-none : (given : List ℕ) (a : ℕ) → length given ≡ 0 → Before ≡ startOf given a
 unfolding startOf

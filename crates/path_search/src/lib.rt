@@ -1,40 +1,32 @@
 // The first of the shortest paths above a given list of addresses, in the round that applies: the tree is worked out, the bound asked once, and the path
 // found by going down the tree.
-use bound::admissible;
-use descent::first_by;
-use descent::next_after;
 use model::NodeAddress;
-use model::Round;
-use onward::Heads;
-use records::layout::Layout;
+use path_answers::SearchResult;
+use path_descent::first_by;
+use path_descent::next_after;
+use path_step::Heads;
+use profile_records::layout::Layout;
 use request::Query;
-use rounds::settle;
+use tree_rounds::admissible;
+use tree_rounds::settle;
 ghost use mathlib.Core.Path.{_≡_};
 ghost use Prim.Native.Nat.{suc, _≤_, _<_};
 ghost use lib.ListN.{length};
 ghost use Rattle.model.specs.Profile.{costLimit};
 ghost use Rattle.model.specs.Request.{Search};
-ghost use Rattle.laws.proofs.NextSplit.{nextFrom};
-ghost use Rattle.records.specs.Layout.{layoutOf, Sound};
+ghost use Rattle.laws.specs.Descent.{nextFrom};
+ghost use Rattle.profile_records.specs.Layout.{layoutOf, SoundLayout};
 ghost use Rattle.request.specs.Query.{Ready};
-ghost use Rattle.onward.specs.Worked.{Worked, Stands, Ways};
-ghost use Rattle.onward.specs.Onward.{legsFrom};
-ghost use Rattle.descent.specs.Routes.{Written};
-ghost use Rattle.path_search.specs.Sought.{startOf, SoughtFor};
+ghost use Rattle.path_step.specs.Worked.{Worked, Stands, Ways};
+ghost use Rattle.path_step.specs.Onward.{legsFrom};
+ghost use Rattle.path_descent.specs.Routes.{Written};
+ghost use Rattle.path_search.specs.Searched.{startOf, ResultFor};
 
 // How a given list starts: before the source (or not at all), with it, or behind it.
 pub enum Start {
     Before,
     Same,
     Behind,
-}
-
-// The round that applies, and a path found in it: its total, and its addresses at the start of `path`.
-pub struct Sought {
-    pub round: Round,
-    pub found: bool,
-    pub total: u32,
-    pub path: [u32; 17],
 }
 
 fn start_of(given: &[u32], source: NodeAddress) -> Start
@@ -113,10 +105,10 @@ fn above(
 }
 
 // The first of the shortest paths above the given list, in the round that applies; of all where the list is empty.
-pub fn search(s: &[u8], layout: Layout, exclude: &[u8], q: Query, given: &[u32]) -> Sought
-    requires { ⌜ Sound (layoutOf layout) × (layoutOf layout .mostCost ≤ costLimit) × Ready (layoutOf layout) (now s) (now exclude) q ⌝ }
+pub fn search(s: &[u8], layout: Layout, exclude: &[u8], q: Query, given: &[u32]) -> SearchResult
+    requires { ⌜ SoundLayout (layoutOf layout) × (layoutOf layout .mostCost ≤ costLimit) × Ready (layoutOf layout) (now s) (now exclude) q ⌝ }
     requires { ⌜ (1 ≤ length (now given) → length (now given) ≡ suc (q .count)) ⌝ }
-    ensures { λ r. ⌜ SoughtFor (layoutOf layout) (now (s .entry)) (now (exclude .entry)) q (now (given .entry)) r ⌝ }
+    ensures { λ r. ⌜ ResultFor (layoutOf layout) (now (s .entry)) (now (exclude .entry)) q (now (given .entry)) r ⌝ }
 {
     let mut addresses = [0u32; 242];
     let mut reaches = [0u32; 242];
@@ -140,7 +132,7 @@ pub fn search(s: &[u8], layout: Layout, exclude: &[u8], q: Query, given: &[u32])
     let round = query.round;
     let limits = query.limits;
     if !admissible(limits, here) {
-        return Sought {
+        return SearchResult {
             round,
             found: false,
             total: 0,
@@ -160,7 +152,7 @@ pub fn search(s: &[u8], layout: Layout, exclude: &[u8], q: Query, given: &[u32])
         given,
         &mut path,
     );
-    Sought {
+    SearchResult {
         round,
         found,
         total: here,

@@ -16,6 +16,7 @@ use Rattle.pcep_model.specs.declared.MessageKind.{MessageKind}
 use Rattle.pcep_model.specs.Along.{checkedAlong, placesAlong, orElse, firstOf}
 use Rattle.pcep_model.specs.Objects.{METRIC, classAt, typeAt, sizeAt, isObject, ownLength, objectVerdict, objectsVerdict, objectsIn, afterObject, firstObject}
 use Rattle.pcep_model.specs.Metrics.{wrongMetric, boundMetric}
+use Rattle.pcep_laws.specs.Left.{Stands}
 use Rattle.pcep_laws.specs.Table.{leasts, fitsLeast}
 use Rattle.pcep_laws.specs.Metrics.{hasB, isWrong}
 use Rattle.pcep_laws.proofs.Table.{own-is}
@@ -47,12 +48,6 @@ module _ (next : ℕ → ℕ) (end : ℕ) (check : ℕ → Verdict) (test : ℕ 
       here false {later} f x pass rest some = subst (λ (b : Bool). Found (orElse b at later)) (sym f) (rest (λ z. some (ap (λ (b : Bool). orElse b at later) f ∙ z)))
 
 -- ---- an object of a class that is known in the message
-
--- all of it lies inside the message, and it is at least so long
-pub record Stands (s : List ℕ) (at least : ℕ) : Type 0 where
-  pub long : least ≤ sizeAt s at
-  pub inside : at + sizeAt s at ≤ length s
-  pub head : at + 4 ≤ length s
 
 module _ (k : MessageKind) (s : List ℕ) (pass : objectsVerdict k s 4 ≡ Pass) where
   least-by : (c least n : ℕ) → 0 < least → fitsLeast c least n ≡ true → least ≤ n

@@ -17,7 +17,8 @@ use Rattle.pcep_model.specs.Metrics.{metricAt, metrics, wrongMetric, boundMetri
 use Rattle.pcep_laws.specs.Table.{leastOf, fitsLeast}
 use Rattle.pcep_laws.proofs.Table.{own-is}
 use Rattle.pcep_laws.proofs.Along as Along
-use Rattle.pcep_laws.proofs.Objects.{right-object, further, objectsLeft, placesLeft, places-whole}
+use Rattle.pcep_laws.proofs.Objects.{right-object, further, places-whole}
+use Rattle.pcep_laws.specs.Left.{objectsLeft, placesLeft, metricsLeft}
 use Rattle.pcep_laws.specs.Metrics.{metricPlaces, hasB, isWrong}
 
 -- ---- a test of some of the places
@@ -52,13 +53,10 @@ module _ (s : List ℕ) where
 -- ---- along the objects
 
 module _ (k : MessageKind) (s : List ℕ) where
-  abbrev pub metricsLeft : ℕ → List ℕ
-  metricsLeft at = keep (isObject METRIC s) (placesLeft k s at)
-
-  pub metrics-whole : objectsVerdict k s 4 ≡ Pass → metricsLeft 4 ≡ metricPlaces s
+  pub metrics-whole : objectsVerdict k s 4 ≡ Pass → metricsLeft s 4 ≡ metricPlaces s
   metrics-whole e = ap (keep (isObject METRIC s)) (places-whole k s 4 e)
 
-  pub metrics-end : (at : ℕ) → length s ≤ at → metricsLeft at ≡ []
+  pub metrics-end : (at : ℕ) → length s ≤ at → metricsLeft s at ≡ []
   unfolding keep
   metrics-end at h = ap (keep (isObject METRIC s)) (Along.places-end (afterObject s) (length s) (objectVerdict k s) (further k s) at h)
 
@@ -66,11 +64,11 @@ module _ (k : MessageKind) (s : List ℕ) where
     here : objectVerdict k s at ≡ Pass
     here = Along.right-here (afterObject s) (length s) (objectVerdict k s) (further k s) at h pass
 
-    split : metricsLeft at ≡ keepIf (isObject METRIC s at) at (metricsLeft (afterObject s at))
+    split : metricsLeft s at ≡ keepIf (isObject METRIC s at) at (metricsLeft s (afterObject s at))
     unfolding keep
     split = ap (keep (isObject METRIC s)) (Along.places-next (afterObject s) (length s) (objectVerdict k s) (further k s) at h pass)
 
-    pub metric-skipped : isObject METRIC s at ≡ false → metricsLeft at ≡ metricsLeft (afterObject s at)
+    pub metric-skipped : isObject METRIC s at ≡ false → metricsLeft s at ≡ metricsLeft s (afterObject s at)
     metric-skipped f = split ∙ rw f refl
 
     module _ (is : isObject METRIC s at ≡ true) where
@@ -92,7 +90,7 @@ module _ (k : MessageKind) (s : List ℕ) where
       pub metric-inside : at + 12 ≤ length s
       metric-inside = let i = (right-object k s at here) .inside in rw (sym metric-size) i
 
-      pub metric-taken : metricsLeft at ≡ at ∷ metricsLeft (at + 12)
+      pub metric-taken : metricsLeft s at ≡ at ∷ metricsLeft s (at + 12)
       metric-taken = split ∙ rw (is, metric-size) refl
 
       pub after-metric : objectsLeft k s (at + 12) ≡ Pass

@@ -15,6 +15,7 @@ use Rattle.laws.proofs.Turns.{andThen-refuseIf, refuseIf-pass}
 use Rattle.pcep_model.specs.declared.MessageKind.{MessageKind}
 use Rattle.pcep_model.specs.Along.{orElse, firstOf}
 use Rattle.pcep_model.specs.Objects.{classAt, typeAt, demandedAt, sizeAt, sizeWrong, knownObject, ownLength, objectVerdict, afterObject, objectsVerdict, objectsIn}
+use Rattle.pcep_laws.specs.Left.{objectsLeft, placesLeft}
 use Rattle.pcep_laws.specs.Firsts.{kept, noted}
 use Rattle.pcep_laws.proofs.Along as Along
 
@@ -48,26 +49,20 @@ module _ (k : MessageKind) (s : List ℕ) where
 
   -- ---- what is left from an offset on
 
-  abbrev pub objectsLeft : ℕ → Verdict
-  objectsLeft at = Along.checkedLeft (afterObject s) (length s) (objectVerdict k s) further at
-
-  abbrev pub placesLeft : ℕ → List ℕ
-  placesLeft at = Along.placesLeft (afterObject s) (length s) (objectVerdict k s) further at
-
-  pub objects-whole : (at : ℕ) → objectsLeft at ≡ objectsVerdict k s at
+  pub objects-whole : (at : ℕ) → objectsLeft k s at ≡ objectsVerdict k s at
   objects-whole at = Along.checked-whole (afterObject s) (length s) (objectVerdict k s) further (length s) at (omega arith)
 
-  pub places-whole : (at : ℕ) → objectsVerdict k s at ≡ Pass → placesLeft at ≡ objectsIn s at
+  pub places-whole : (at : ℕ) → objectsVerdict k s at ≡ Pass → placesLeft s at ≡ objectsIn s at
   places-whole at e = Along.places-whole (afterObject s) (length s) (objectVerdict k s) further (length s) at (omega arith) (objects-whole at ∙ e)
 
   module _ (test : ℕ → Bool) where
     -- none is left at the end
-    pub first-end : (at : ℕ) → length s ≤ at → firstOf test (placesLeft at) ≡ 0
+    pub first-end : (at : ℕ) → length s ≤ at → firstOf test (placesLeft s at) ≡ 0
     unfolding firstOf
     first-end at h = ap (firstOf test) (Along.places-end (afterObject s) (length s) (objectVerdict k s) further at h)
 
     -- the object at hand, or the first of those after it
-    pub first-next : (at : ℕ) → at < length s → objectsLeft at ≡ Pass → firstOf test (placesLeft at) ≡ orElse (test at) at (firstOf test (placesLeft (afterObject s at)))
+    pub first-next : (at : ℕ) → at < length s → objectsLeft k s at ≡ Pass → firstOf test (placesLeft s at) ≡ orElse (test at) at (firstOf test (placesLeft s (afterObject s at)))
     unfolding firstOf
     first-next at h e = ap (firstOf test) (Along.places-next (afterObject s) (length s) (objectVerdict k s) further at h e)
 

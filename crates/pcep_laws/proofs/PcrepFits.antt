@@ -1,6 +1,6 @@
 -- What the machine's types say of the fields of a reply that is written, and what the writer's verdict says: the message has at most 65535 bytes, and no
 -- METRIC is out of range. By taking its tests apart.
-use Prim.Native.Nat.{ℕ, suc, _<_}
+use Prim.Native.Nat.{ℕ, _<_}
 use native.Mathlib.Omega.{arith}
 use mathlib.Core.Path.{_≡_}
 use mathlib.Core.Bool.{Bool, false, _||_}
@@ -12,9 +12,8 @@ use Rattle.model.specs.declared.Verdict.the-variants.{Pass}
 use Rattle.model.specs.Lists.{any}
 use Rattle.laws.proofs.Tests.{or-neither}
 use Rattle.laws.proofs.Turns.{andThen-refuseIf, refuseIf-pass}
-use Rattle.laws.proofs.BigEndian.{Bytes}
 use Rattle.pcep_model.specs.Metrics.{Metric, outOfRange}
-use Rattle.pcep_model.specs.Pcrep.{Reply, writtenPcrep, metricsOf, writeVerdict}
+use Rattle.pcep_model.specs.Pcrep.{Reply, writtenPcrep, writeVerdict}
 use Rattle.pcep_laws.proofs.InARow.{Each}
 
 pub record MetricFits (m : Metric) : Type 0 where
@@ -27,18 +26,6 @@ pub record Fits (r : Reply) : Type 0 where
   pub nature-fits : r .nature < 256
   pub addresses-fit : (i : ℕ) → getD (r .addresses) i 0 < 4294967296
   pub metrics-fit : Each MetricFits (r .metrics)
-
--- the METRICs of three lent lists do
-pub metrics-of-fit
-    : (kinds flags values : List ℕ) → Bytes kinds → Bytes flags → ((i : ℕ) → getD values i 0 < 4294967296) → Each MetricFits (metricsOf kinds flags values)
-unfolding metricsOf
-metrics-of-fit [] flags values k f v = tt
-metrics-of-fit (a ∷ kinds) [] values k f v = tt
-metrics-of-fit (a ∷ kinds) (b ∷ flags) [] k f v = tt
-metrics-of-fit (a ∷ kinds) (b ∷ flags) (c ∷ values) k f v = (
-  record { kind-fits = k 0; flags-fit = f 0; value-fits = v 0 },
-  metrics-of-fit kinds flags values (λ i. k (suc i)) (λ i. f (suc i)) (λ i. v (suc i)),
-)
 
 -- ---- the writer's verdict
 

@@ -1,3 +1,4 @@
 pub mod Table
 pub mod Firsts
 pub mod Metrics
+pub mod Left

@@ -14,7 +14,7 @@ use Rattle.laws.proofs.Turns.{refuse-not-pass}
 use Rattle.pcep_model.specs.declared.MessageKind.{MessageKind}
 use Rattle.pcep_model.specs.declared.MessageKind.the-variants.{Pcreq, Pcrep}
 use Rattle.pcep_model.specs.Objects.{RP, END-POINTS, ERO, NO-PATH, headerWrong, objectsVerdict, bodyVerdict, messageVerdict, firstObject}
-use Rattle.pcep_objects.specs.Walked.{FirstsAre}
+use Rattle.pcep_message.specs.Walked.{FirstsAre}
 use Rattle.pcep_message.specs.Framed.{missingVerdict, FrameIs}
 
 -- what the places say is missing is missing

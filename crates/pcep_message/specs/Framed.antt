@@ -9,8 +9,8 @@ use Rattle.model.specs.declared.Verdict.the-variants.{Pass}
 use Rattle.model.specs.Verdict.{refuseIf, _andThen_}
 use Rattle.pcep_model.specs.declared.MessageKind.{MessageKind}
 use Rattle.pcep_model.specs.Objects.{RP, bodyLacks, objectsVerdict, messageVerdict}
-use Rattle.pcep_objects.specs.declared.Objects.{Objects}
-use Rattle.pcep_objects.specs.Walked.{FirstsAre}
+use Rattle.pcep_message.specs.declared.objects.Objects.{Objects}
+use Rattle.pcep_message.specs.Walked.{FirstsAre}
 
 -- 39, then 40 or 41, by where the first object of each class starts
 abbrev pub missingVerdict : MessageKind → List ℕ → Verdict

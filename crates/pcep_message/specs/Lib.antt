@@ -1,1 +1,3 @@
 pub mod Framed
+pub mod Walked
+pub mod Extents

@@ -1,8 +1,8 @@
 // A whole message: the common header, 36, the objects in turn, then 39, 40 and 41.
+use crate::objects::Objects;
+use crate::objects::objects_in;
 use model::Verdict;
 use pcep_model::MessageKind;
-use pcep_objects::Objects;
-use pcep_objects::objects_in;
 use refusal::refuse;
 use wire::u16_at;
 ghost use mathlib.Core.Path.{_≡_};
@@ -11,6 +11,9 @@ ghost use Prim.Native.Nat.{_≤_};
 ghost use lib.ListN.{length};
 ghost use Rattle.pcep_model.specs.Objects.{typeNumber, headerWrong};
 ghost use Rattle.pcep_message.specs.Framed.{missingVerdict, FrameIs};
+
+pub mod objects;
+pub mod parts;
 
 fn type_number(kind: MessageKind) -> u8
     ensures { λ r. ⌜ r ≡ typeNumber kind ⌝ }

@@ -10,9 +10,10 @@ use Rattle.pcep_model.specs.Along.{firstOf}
 use Rattle.pcep_model.specs.Objects.{METRIC, isObject}
 use Rattle.pcep_laws.specs.Firsts.{kept, noted}
 use Rattle.pcep_laws.specs.Metrics.{metricPlaces, hasB, isWrong}
-use Rattle.pcep_laws.proofs.Objects.{objectsLeft, objects-whole, noted-kept, kept-none}
-use Rattle.pcep_laws.proofs.Metrics.{metricsLeft, metrics-whole, metrics-end, metric-inside, metric-taken, after-metric, bound-is, wrong-is, metrics-count}
-use Rattle.pcep_metrics.specs.Along.{Passed, AtObject, NextMetric, JudgedAre}
+use Rattle.pcep_laws.specs.Left.{objectsLeft, metricsLeft}
+use Rattle.pcep_laws.proofs.Objects.{objects-whole, noted-kept, kept-none}
+use Rattle.pcep_laws.proofs.Metrics.{metrics-whole, metrics-end, metric-inside, metric-taken, after-metric, bound-is, wrong-is, metrics-count}
+use Rattle.pcep_metrics.specs.Along.{Passed, AtObject, NextMetric, MetricScanIs}
 
 -- ---- the first METRIC that passes a test, met so far or to come
 
@@ -38,10 +39,10 @@ module _ (s : List ℕ) where
     pub inside : at ≤ length s
     pub start : 4 ≤ at
     pub metric : at < length s → isObject METRIC s at ≡ true
-    pub counted : count + length (metricsLeft (p .kind) s at) ≡ length (metricPlaces s)
+    pub counted : count + length (metricsLeft s at) ≡ length (metricPlaces s)
     pub few : count ≤ at
-    pub bound-met : Met (hasB s) bound (metricsLeft (p .kind) s at) (metricPlaces s)
-    pub wrong-met : Met (isWrong s) wrong (metricsLeft (p .kind) s at) (metricPlaces s)
+    pub bound-met : Met (hasB s) bound (metricsLeft s at) (metricPlaces s)
+    pub wrong-met : Met (isWrong s) wrong (metricsLeft s at) (metricPlaces s)
 
   module _ (p : Passed s) where
     start-left : objectsLeft (p .kind) s 4 ≡ Pass
@@ -62,12 +63,12 @@ module _ (s : List ℕ) where
           metric = n .metric;
           counted = let l = ap length same in omega arith;
           few = omega arith;
-          bound-met = met-starts (hasB s) (metricsLeft k s r) (metricPlaces s) same;
-          wrong-met = met-starts (isWrong s) (metricsLeft k s r) (metricPlaces s) same;
+          bound-met = met-starts (hasB s) (metricsLeft s r) (metricPlaces s) same;
+          wrong-met = met-starts (isWrong s) (metricsLeft s r) (metricPlaces s) same;
         }
 
     module _ (at count bound wrong : ℕ) (j : Judging p at count bound wrong) where
-      pub judging-ends : length s ≤ at → JudgedAre s (record { count = count; bound = bound; wrong = wrong })
+      pub judging-ends : length s ≤ at → MetricScanIs s (record { count = count; bound = bound; wrong = wrong })
       judging-ends h =
           let none = metrics-end (p .kind) s at h in
           record {

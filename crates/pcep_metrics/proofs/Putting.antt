@@ -14,10 +14,10 @@ use Rattle.model.specs.declared.Verdict.the-variants.{Pass}
 use Rattle.model.specs.Lists.{over}
 use Rattle.laws.proofs.Lists.{over-length, over-nothing, copied-next}
 use Rattle.laws.proofs.Tests.{decide}
-use Rattle.pcep_model.specs.Objects.{METRIC}
 use Rattle.pcep_model.specs.Metrics.{Metric, metricAt, metrics}
-use Rattle.pcep_laws.proofs.Objects.{objectsLeft, objects-whole}
-use Rattle.pcep_laws.proofs.Metrics.{metricsLeft, metrics-whole, metrics-end, metrics-are, metric-inside, metric-taken, after-metric}
+use Rattle.pcep_laws.specs.Left.{objectsLeft, metricsLeft}
+use Rattle.pcep_laws.proofs.Objects.{objects-whole}
+use Rattle.pcep_laws.proofs.Metrics.{metrics-whole, metrics-end, metrics-are, metric-inside, metric-taken, after-metric}
 use Rattle.pcep_metrics.specs.Along.{Passed, AtObject, NextMetric}
 
 -- ---- one buffer: the field of the first i elements over its start
@@ -72,7 +72,7 @@ module _ (s : List ℕ) where
   pub record Putting (p : Passed s) (at i : ℕ) : Type 0 where
     pub left : objectsLeft (p .kind) s at ≡ Pass
     pub inside : at ≤ length s
-    pub rest : drop i (metrics s) ≡ map (metricAt s) (metricsLeft (p .kind) s at)
+    pub rest : drop i (metrics s) ≡ map (metricAt s) (metricsLeft s at)
 
   module _ (p : Passed s) where
     pub putting-starts : Putting p 4 0
@@ -91,7 +91,7 @@ module _ (s : List ℕ) where
         right : objectsLeft (p .kind) s r ≡ Pass
         right = n .none-between .left (p .kind) (j .left)
 
-        same : metricsLeft (p .kind) s at ≡ metricsLeft (p .kind) s r
+        same : metricsLeft s at ≡ metricsLeft s r
         same = n .none-between .same (p .kind) (j .left)
 
         -- a METRIC is left, so one is met
@@ -106,7 +106,7 @@ module _ (s : List ℕ) where
         pub whole : r + 12 ≤ length s
         whole = metric-inside (p .kind) s r met right (n .metric met)
 
-        split : drop i (metrics s) ≡ metricAt s r ∷ map (metricAt s) (metricsLeft (p .kind) s (r + 12))
+        split : drop i (metrics s) ≡ metricAt s r ∷ map (metricAt s) (metricsLeft s (r + 12))
         split = j .rest ∙ ap (map (metricAt s)) (same ∙ metric-taken (p .kind) s r met right (n .metric met))
 
         pub is-there : (f : Metric → ℕ) → getD (map f (metrics s)) i 0 ≡ f (metricAt s r)

@@ -1,5 +1,5 @@
 -- What the walks along a message's METRICs ask for and answer, over `Metrics` of `pcep_model`.
-use Prim.Native.Nat.{ℕ, min, _≤_, _<_}
+use Prim.Native.Nat.{ℕ, _≤_, _<_}
 use mathlib.Core.Path.{_≡_}
 use mathlib.Core.Bool.{true}
 use mathlib.Core.List.{List}
@@ -8,9 +8,8 @@ use Rattle.model.specs.declared.Verdict.the-variants.{Pass}
 use Rattle.pcep_model.specs.declared.MessageKind.{MessageKind}
 use Rattle.pcep_model.specs.Objects.{METRIC, isObject, objectsVerdict}
 use Rattle.pcep_model.specs.Metrics.{Metric, metrics, wrongMetric, boundMetric}
-use Rattle.pcep_laws.proofs.Objects.{objectsLeft}
-use Rattle.pcep_laws.proofs.Metrics.{metricsLeft}
-use Rattle.pcep_metrics.specs.declared.Judged.{Judged}
+use Rattle.pcep_laws.specs.Left.{objectsLeft, metricsLeft}
+use Rattle.pcep_metrics.specs.declared.MetricScan.{MetricScan}
 
 -- a message of some kind whose objects are right
 pub record Passed (s : List ℕ) : Type 0 where
@@ -30,14 +29,14 @@ pub record NoneBetween (s : List ℕ) (from at : ℕ) : Type 0 where
   pub further : from ≤ at
   pub inside : at ≤ length s
   pub left : (k : MessageKind) → objectsLeft k s from ≡ Pass → objectsLeft k s at ≡ Pass
-  pub same : (k : MessageKind) → objectsLeft k s from ≡ Pass → metricsLeft k s from ≡ metricsLeft k s at
+  pub same : (k : MessageKind) → objectsLeft k s from ≡ Pass → metricsLeft s from ≡ metricsLeft s at
 
 -- and one stands there, unless it is the end
 pub record NextMetric (s : List ℕ) (from r : ℕ) : Type 0 where
   pub none-between : NoneBetween s from r
   pub metric : r < length s → isObject METRIC s r ≡ true
 
-pub record JudgedAre (s : List ℕ) (r : Judged) : Type 0 where
+pub record MetricScanIs (s : List ℕ) (r : MetricScan) : Type 0 where
   pub count : r .count ≡ length (metrics s)
   pub bound : r .bound ≡ boundMetric s
   pub wrong : r .wrong ≡ wrongMetric s
@@ -52,7 +51,3 @@ flagsOf m = m .flags
 
 abbrev pub valueOf : Metric → ℕ
 valueOf m = m .value
-
--- the capacity of three buffers that belong together
-abbrev pub least3 : List ℕ → List ℕ → List ℕ → ℕ
-least3 a b c = min (length a) (min (length b) (length c))

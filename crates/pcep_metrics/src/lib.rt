@@ -2,25 +2,14 @@
 use wire::u16_at;
 use wire::u32_at;
 ghost use mathlib.Core.Path.{_≡_};
-ghost use mathlib.Core.Bool.{cond};
 ghost use mathlib.Core.List.{map};
-ghost use Prim.Native.Nat.{min, _+_, _≤_};
+ghost use Prim.Native.Nat.{_+_, _≤_};
 ghost use lib.ListN.{length};
 ghost use Rattle.model.specs.Lists.{over};
 ghost use Rattle.pcep_model.specs.Objects.{METRIC, isObject};
 ghost use Rattle.pcep_model.specs.Metrics.{metrics};
 ghost use Rattle.pcep_laws.specs.Firsts.{noted as notedBy};
-ghost use Rattle.pcep_metrics.specs.Along.{Passed, AtObject, NextMetric, JudgedAre, kindOf, flagsOf, valueOf};
-
-// The lesser of two counts: of buffers that belong together the shortest is their capacity.
-pub fn lesser(a: usize, b: usize) -> usize
-    ensures { λ r. ⌜ r ≡ min a b ⌝ }
-{
-    if a <= b {
-        return a;
-    }
-    b
-}
+ghost use Rattle.pcep_metrics.specs.Along.{Passed, AtObject, NextMetric, MetricScanIs, kindOf, flagsOf, valueOf};
 
 // The object at a place is a METRIC.
 fn is_metric(message: &[u8], at: usize) -> bool
@@ -61,15 +50,15 @@ fn noted(hit: bool, known: usize, at: usize) -> usize
 }
 
 // How many METRICs a message has, and where the first with B set and the first out of range start, 0 for none.
-pub struct Judged {
+pub struct MetricScan {
     pub count: usize,
     pub bound: usize,
     pub wrong: usize,
 }
 
-pub fn judge(message: &[u8]) -> Judged
+pub fn judge(message: &[u8]) -> MetricScan
     requires { ⌜ Passed (now message) ⌝ }
-    ensures { λ r. ⌜ JudgedAre (now (message .entry)) r ⌝ }
+    ensures { λ r. ⌜ MetricScanIs (now (message .entry)) r ⌝ }
 {
     let mut count: usize = 0;
     let mut bound: usize = 0;
@@ -81,7 +70,7 @@ pub fn judge(message: &[u8]) -> Judged
         wrong = noted(0x7F800000 <= u32_at(message, at + 8), wrong, at);
         at = next_metric(message, at + 12);
     }
-    Judged {
+    MetricScan {
         count,
         bound,
         wrong,

@@ -12,7 +12,7 @@ use Rattle.model.specs.Bytes.{number, bytesOf, part}
 use Rattle.model.specs.Verdict.{refuseIf, _andThen_}
 use Rattle.model.specs.Subobject as Subobject
 use Rattle.model.specs.Answers.{Numbers}
-use Rattle.model.specs.Calls.{Outcome, nothing, roomVerdict, answerWrite}
+use Rattle.model.specs.Calls.{Outcome, roomVerdict, answerWrite}
 use Rattle.pcep_model.specs.declared.MessageKind.{MessageKind}
 use Rattle.pcep_model.specs.declared.MessageKind.the-variants.{Pcrep}
 use Rattle.pcep_model.specs.declared.PcrepFields.{PcrepFields}

@@ -1,5 +1,5 @@
 -- What a request's sequence is by its checks, and that a query with that sequence is ready for a search.
-use mathlib.Core.Path.{_≡_, refl, sym, ap, subst, _∙_}
+use mathlib.Core.Path.{_≡_, sym, ap, subst}
 use Prim.Native.Nat.{ℕ, _<_}
 use native.Mathlib.Omega.{arith}
 use Rattle.model.specs.declared.Limits.{Limits}
@@ -11,14 +11,15 @@ use Rattle.model.specs.declared.Verdict.the-variants.{Pass, Refuse}
 use Rattle.model.specs.Profile.{version1, domains, domainCount}
 use Rattle.model.specs.Sequence.{refused, good, meaning}
 use Rattle.model.specs.Request.{Request, provided, requestVerdict, sequenceOf}
+use Rattle.laws.specs.Stops.{stopsOf}
 use Rattle.laws.proofs.Lists.{mem-map, mem-countFrom}
 use Rattle.laws.proofs.Records.{length-domains}
 use Rattle.laws.proofs.AcceptedRequest.{PassedRequest}
 use Rattle.laws.proofs.SequenceDomains.{meaning-different, meaning-inside}
-use Rattle.sequence.specs.declared.state.State.{State}
-use Rattle.sequence.specs.Reading as R
+use Rattle.list_include.specs.declared.state.State.{State}
+use Rattle.list_include.specs.Reading as R
 use Rattle.request.specs.declared.Query.{Query}
-use Rattle.request.specs.Query.{domainAt, stopOf, stopsOf, Ready}
+use Rattle.request.specs.Query.{queryDomain, queryStop, queryStops, Ready}
 
 module _ (req : Request) where
   pub sequence-refused : (r : Refusal) → requestVerdict req ≡ Refuse r → sequenceOf req ≡ refused r
@@ -47,22 +48,15 @@ module _ (req : Request) (st : State) (source destination : NodeAddress) where
   abbrev q : Query
   q = queryOf st source destination (req .limits)
 
-  pub same-stops : stopsOf q ≡ R.stopsOf st
-  unfolding stopsOf R.stopsOf
-  same-stops = refl
-
-  module _ (passed : PassedRequest req) (sound : R.Sound st) (means : meaning (domains (req .profile)) (req .ingress) (req .include) ≡ good (R.stopsOf st)) where
-    means-query : meaning (domains (req .profile)) (req .ingress) (req .include) ≡ good (stopsOf q)
-    means-query = means ∙ ap good (sym same-stops)
-
-    inside : (i : ℕ) → i < q .count → domainAt q i < domainCount (req .profile)
+  module _ (passed : PassedRequest req) (sound : R.SoundState st) (means : meaning (domains (req .profile)) (req .ingress) (req .include) ≡ good (R.stateStops st)) where
+    inside : (i : ℕ) → i < q .count → queryDomain q i < domainCount (req .profile)
     unfolding stopsOf
     inside i h =
-        subst (λ (n : ℕ). domainAt q i < n) (length-domains (req .profile))
-        (meaning-inside (domains (req .profile)) (req .ingress) (req .include) (stopsOf q) means-query
+        subst (λ (n : ℕ). queryDomain q i < n) (length-domains (req .profile))
+        (meaning-inside (domains (req .profile)) (req .ingress) (req .include) (queryStops q) means
         (subst (λ (n : ℕ). req .ingress < n) (sym (length-domains (req .profile))) (passed .ingress))
-        (stopOf q i)
-        (mem-map (stopOf q) (mem-countFrom 0 (q .count) i (omega arith) (omega arith))))
+        (queryStop q i)
+        (mem-map (queryStop q) (mem-countFrom 0 (q .count) i (omega arith) (omega arith))))
 
     pub ready-query : Ready version1 (req .profile) (req .exclude) q
     ready-query =
@@ -77,5 +71,5 @@ module _ (req : Request) (st : State) (source destination : NodeAddress) where
           pinned-long = sound .pinned-long;
           pins-long = sound .pins-long;
           known = inside;
-          apart = meaning-different (domains (req .profile)) (req .ingress) (req .include) (stopsOf q) means-query;
+          apart = meaning-different (domains (req .profile)) (req .ingress) (req .include) (queryStops q) means;
         }

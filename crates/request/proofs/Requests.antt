@@ -1,6 +1,6 @@
 -- What `RequestIs` gives a caller: where the checks pass, the request is accepted with the query's sequence, and the search it asks for is
 -- the query's in every round, so in the one that applies; where they refuse, so does the request. And a query is ready in every round.
-use mathlib.Core.Path.{_≡_, refl, sym, ap, _∙_}
+use mathlib.Core.Path.{_≡_, sym, ap, _∙_}
 use mathlib.Core.List.{List}
 use Prim.Native.Nat.{ℕ}
 use Rattle.model.specs.declared.DomainIndex.{DomainIndex}
@@ -17,16 +17,13 @@ use Rattle.model.specs.Exclusion.{inForce}
 use Rattle.model.specs.Sequence.{refused, good}
 use Rattle.model.specs.Request.{Request, provided, sequenceOf, Accepted, searchIn}
 use Rattle.model.specs.Rounds.{roundBy, roundOf, searchOf}
+use Rattle.laws.specs.Stops.{stopsOf}
 use Rattle.request.specs.declared.Query.{Query}
-use Rattle.request.specs.declared.Checked.{Checked}
-use Rattle.request.specs.Query.{stopsOf, searchFor, inRound, roundFor, Ready}
-use Rattle.request.specs.Checked.{requestOf, RequestIs}
+use Rattle.request.specs.declared.CheckedRequest.{CheckedRequest}
+use Rattle.request.specs.Query.{queryStops, searchFor, inRound, roundFor, Ready}
+use Rattle.request.specs.CheckedRequest.{requestOf, RequestIs}
 
 module _ (x : Round) (q : Query) where
-  pub stops-in : stopsOf (inRound x q) ≡ stopsOf q
-  unfolding stopsOf
-  stops-in = refl
-
   pub ready-in : {L : Layout} {P E : List ℕ} → Ready L P E q → Ready L P E (inRound x q)
   unfolding stopsOf
   ready-in r =
@@ -44,33 +41,33 @@ module _ (x : Round) (q : Query) where
         apart = r .apart;
       }
 
-module _ (P : List ℕ) (ingress : DomainIndex) (source destination : NodeAddress) (I E : List ℕ) (limits : Limits) (r : Checked) (is : RequestIs P ingress source destination I E limits r) where
+module _ (P : List ℕ) (ingress : DomainIndex) (source destination : NodeAddress) (I E : List ℕ) (limits : Limits) (r : CheckedRequest) (is : RequestIs P ingress source destination I E limits r) where
   abbrev req : Request
   req = requestOf P (ingress .0) (source .0) (destination .0) I E limits
 
   pub refused-request : (why : Refusal) → r .verdict ≡ Refuse why → sequenceOf req ≡ refused why
-  refused-request why e = sym (is .means) ∙ ap (λ (v : Verdict). provided v (good (stopsOf (r .query)))) e
+  refused-request why e = sym (is .means) ∙ ap (λ (v : Verdict). provided v (good (queryStops (r .query)))) e
 
-  pub accepted-request : r .verdict ≡ Pass → Accepted req (stopsOf (r .query))
-  accepted-request e = sym (is .means) ∙ ap (λ (v : Verdict). provided v (good (stopsOf (r .query)))) e
+  pub accepted-request : r .verdict ≡ Pass → Accepted req (queryStops (r .query))
+  accepted-request e = sym (is .means) ∙ ap (λ (v : Verdict). provided v (good (queryStops (r .query)))) e
 
-  search-in : (x : Round) → searchIn x req (stopsOf (r .query)) ≡ searchFor version1 P E (inRound x (r .query))
+  search-in : (x : Round) → searchIn x req (queryStops (r .query)) ≡ searchFor version1 P E (inRound x (r .query))
   unfolding searchIn stopsOf
   search-in x =
       λ k. record {
         domains = domains P;
         hops = hops version1 P;
-        sequence = stopsOf (r .query);
+        sequence = queryStops (r .query);
         exclusions = inForce x (subobjects E);
         source = (sym (is .source-kept) k) .0;
         destination = (sym (is .destination-kept) k) .0;
         limits = sym (is .limits-kept) k;
       }
 
-  pub round-request : roundOf req (stopsOf (r .query)) ≡ roundFor version1 P E (r .query)
+  pub round-request : roundOf req (queryStops (r .query)) ≡ roundFor version1 P E (r .query)
   unfolding roundOf roundFor
   round-request = ap (roundBy (subobjects E)) (search-in First)
 
-  pub search-request : searchOf req (stopsOf (r .query)) ≡ searchFor version1 P E (inRound (roundFor version1 P E (r .query)) (r .query))
+  pub search-request : searchOf req (queryStops (r .query)) ≡ searchFor version1 P E (inRound (roundFor version1 P E (r .query)) (r .query))
   unfolding searchOf
-  search-request = (λ k. searchIn (round-request k) req (stopsOf (r .query))) ∙ search-in (roundFor version1 P E (r .query))
+  search-request = (λ k. searchIn (round-request k) req (queryStops (r .query))) ∙ search-in (roundFor version1 P E (r .query))

@@ -15,7 +15,7 @@ use Rattle.model.specs.Subobject.{formVerdict}
 use Rattle.model.specs.Floats.{inRange}
 use Rattle.model.specs.Request.{sizeVerdict, limitsVerdict, requestVerdict}
 use Rattle.laws.proofs.Turns.{passed-first, refused-first}
-use Rattle.request.specs.Checked.{requestOf, startVerdict, listsVerdict}
+use Rattle.request.specs.CheckedRequest.{requestOf, startVerdict, listsVerdict}
 
 -- ---- the limits
 

@@ -1,3 +1,3 @@
 pub mod Query
-pub mod Checked
+pub mod CheckedRequest
 pub mod Bits

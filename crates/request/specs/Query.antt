@@ -1,38 +1,33 @@
 -- What the code's query stands for, over the definitions of `model`.
 use mathlib.Core.Path.{_≡_}
 use mathlib.Core.Bool.{true}
-use mathlib.Core.List.{List, map}
+use mathlib.Core.List.{List}
 use Prim.Native.Nat.{ℕ, _≤_, _<_}
-use lib.ListN.{length, getD, take}
-use Rattle.model.specs.declared.DomainIndex.{DomainIndex}
-use Rattle.model.specs.declared.NodeAddress.{NodeAddress}
+use lib.ListN.{length}
 use Rattle.model.specs.declared.ListKind.the-variants.{Exclude}
 use Rattle.model.specs.declared.Round.{Round}
 use Rattle.model.specs.declared.Round.the-variants.{First}
 use Rattle.model.specs.declared.Verdict.the-variants.{Pass}
-use Rattle.model.specs.Lists.{allDifferent, countFrom}
+use Rattle.model.specs.Lists.{allDifferent}
 use Rattle.model.specs.Profile.{Layout, domainCount, domains, hops, profileVerdict}
 use Rattle.model.specs.Subobject.{formVerdict, subobjects}
 use Rattle.model.specs.Sequence.{Stop, domainsOf}
-use Rattle.model.specs.WrittenList.{pinIf}
 use Rattle.model.specs.Exclusion.{inForce}
 use Rattle.model.specs.Floats.{inRange}
 use Rattle.model.specs.Request.{Search}
 use Rattle.model.specs.Rounds.{roundBy}
+use Rattle.laws.specs.Stops.{domainIn, stopIn, stopsOf}
 use Rattle.request.specs.declared.Query.{Query}
 
--- domain i of the sequence, and its entry constraint
-abbrev pub domainAt : Query → ℕ → ℕ
-domainAt q i = (getD (q .domains) i (record { 0 = 0 })) .0
+-- domain i of the sequence, alone and with its entry constraint, and the whole sequence
+abbrev pub queryDomain : Query → ℕ → ℕ
+queryDomain q = domainIn (q .domains)
 
-abbrev pub pinAt : Query → ℕ → ℕ
-pinAt q i = (getD (q .pins) i (record { 0 = 0 })) .0
+abbrev pub queryStop : Query → ℕ → Stop
+queryStop q = stopIn (q .domains) (q .pinned) (q .pins)
 
-abbrev pub stopOf : Query → ℕ → Stop
-stopOf q i = record { domain = domainAt q i; pin = pinIf (getD (q .pinned) i 0) (pinAt q i) }
-
-unfoldable pub stopsOf : Query → List Stop
-stopsOf q = map (stopOf q) (countFrom 0 (q .count))
+abbrev pub queryStops : Query → List Stop
+queryStops q = stopsOf (q .count) (q .domains) (q .pinned) (q .pins)
 
 -- the search that a query stands for in its round, over a profile and an exclude list
 abbrev pub searchFor : Layout → List ℕ → List ℕ → Query → Search
@@ -40,7 +35,7 @@ searchFor L profile exclude q =
     record {
       domains = domains profile;
       hops = hops L profile;
-      sequence = stopsOf q;
+      sequence = queryStops q;
       exclusions = inForce (q .round) (subobjects exclude);
       source = q .source .0;
       destination = q .destination .0;
@@ -76,5 +71,5 @@ pub record Ready (L : Layout) (profile exclude : List ℕ) (q : Query) : Type 0 
   pub domains-long : length (q .domains) ≡ 16
   pub pinned-long : length (q .pinned) ≡ 16
   pub pins-long : length (q .pins) ≡ 16
-  pub known : (i : ℕ) → i < q .count → domainAt q i < domainCount profile
-  pub apart : allDifferent (domainsOf (stopsOf q)) ≡ true
+  pub known : (i : ℕ) → i < q .count → queryDomain q i < domainCount profile
+  pub apart : allDifferent (domainsOf (queryStops q)) ≡ true

@@ -5,13 +5,13 @@ use model::DomainIndex;
 use model::Limits;
 use model::ListKind;
 use model::Verdict;
-use profile::verdict_on;
-use records::header::domain_count;
+use profile_check::verdict_on;
+use profile_records::header::domain_count;
 use refusal::refuse;
 ghost use mathlib.Core.Path.{_≡_};
 ghost use Prim.Native.Nat.{ℕ};
 ghost use Rattle.model.specs.Request.{requestVerdict};
-ghost use Rattle.request.specs.Checked.{requestOf, startVerdict, listsVerdict};
+ghost use Rattle.request.specs.CheckedRequest.{requestOf, startVerdict, listsVerdict};
 
 // The profile, and the ingress domain in it.
 fn start_verdict(profile: &[u8], ingress: DomainIndex) -> Verdict

@@ -1,13 +1,13 @@
 // The checks of a whole request, in document 01's order, and what passes them.
 use crate::checks::request_verdict;
-use include_list::read_list;
+use list_include::read_list;
 use model::DomainIndex;
 use model::Limits;
 use model::NodeAddress;
 use model::Round;
 use model::Verdict;
 ghost use mathlib.Core.Path.{_≡_};
-ghost use Rattle.request.specs.Checked.{RequestIs};
+ghost use Rattle.request.specs.CheckedRequest.{RequestIs};
 ghost use Rattle.request.specs.Query.{inRound};
 
 pub mod checks;
@@ -28,7 +28,7 @@ pub struct Query {
 }
 
 // What the checks before 33 say, and where they pass what a search needs in the first round.
-pub struct Checked {
+pub struct CheckedRequest {
     pub verdict: Verdict,
     pub query: Query,
 }
@@ -42,12 +42,12 @@ pub fn check_request(
     include: &[u8],
     exclude: &[u8],
     limits: Limits,
-) -> Checked
+) -> CheckedRequest
     ensures { λ r. ⌜ RequestIs (now (profile .entry)) ingress source destination (now (include .entry)) (now (exclude .entry)) limits r ⌝ }
 {
     let first = request_verdict(profile, ingress, include, exclude, limits);
     if let Verdict::Refuse(r) = first {
-        return Checked {
+        return CheckedRequest {
             verdict: Verdict::Refuse(r),
             query: Query {
                 count: 0,
@@ -67,7 +67,7 @@ pub fn check_request(
     let domains = read.state.domains;
     let pinned = read.state.pinned;
     let pins = read.state.pins;
-    Checked {
+    CheckedRequest {
         verdict,
         query: Query {
             count,

@@ -11,10 +11,10 @@ use lib.Seq.{ext-getD, getD-take}
 use Rattle.model.specs.declared.TreeEntry.{TreeEntry}
 use Rattle.model.specs.Lists.{over, countFrom}
 use Rattle.laws.proofs.ProfileLists.{length-map-countFrom, getD-map-countFrom}
-use Rattle.reaches.specs.Reaches.{reachOf}
+use Rattle.tree_reaches.specs.Reaches.{reachOf}
 use Rattle.tree_entries.specs.Entries.{entryAt, entriesOf}
-use Rattle.tree_put.specs.Fields.{markIf, level, address, mark, cost, markOf, costOf, levelsOf}
-use Rattle.tree_fields.specs.Solved.{Held}
+use Rattle.tree_fields.specs.Fields.{markIf, level, address, mark, cost, markOf, costOf, levelsOf}
+use Rattle.tree_fields.specs.TreeResult.{Held}
 use Rattle.tree_fields.proofs.Over.{held-count, levels-over}
 
 -- what lies past the end: the entry of the numbers 0

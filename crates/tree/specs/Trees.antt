@@ -8,10 +8,10 @@ use Rattle.model.specs.Lists.{over}
 use Rattle.model.specs.Answers.{numbersOfTree}
 use Rattle.model.specs.Calls.{Outcome}
 use Rattle.tree_entries.specs.Entries.{entriesOf}
-use Rattle.tree.specs.declared.Built.{Built}
+use Rattle.tree.specs.declared.TableResult.{TableResult}
 
 -- the answer, and the entries written by value
-pub record BuiltBy (outcome : Outcome TreeEntry) (room : ℕ) (r : Built) : Type 0 where
+pub record TableResultIs (outcome : Outcome TreeEntry) (room : ℕ) (r : TableResult) : Type 0 where
   pub numbers : numbersOfTree (r .answer) ≡ outcome .numbers
   pub most : r .count ≤ 241
   pub fits : r .count ≤ room

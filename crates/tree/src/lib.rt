@@ -6,15 +6,15 @@ use model::TreeAnswer;
 use model::TreeEntry;
 use tree_entries::TreeTable;
 use tree_entries::fill;
+use tree_fields::put::put_levels;
 use tree_fields::solve;
-use tree_put::put_levels;
 ghost use lib.ListN.{length};
 ghost use Rattle.model.specs.Calls.{buildTree};
-ghost use Rattle.request.specs.Checked.{requestOf};
-ghost use Rattle.tree.specs.Trees.{BuiltBy, TreeLent};
+ghost use Rattle.request.specs.CheckedRequest.{requestOf};
+ghost use Rattle.tree.specs.Trees.{TableResultIs, TreeLent};
 
 // A tree by value: the answer, and the entries to be written, `count` of them.
-pub struct Built {
+pub struct TableResult {
     pub answer: TreeAnswer,
     pub count: usize,
     pub table: TreeTable,
@@ -30,8 +30,8 @@ pub fn build(
     exclude: &[u8],
     limits: Limits,
     room: usize,
-) -> Built
-    ensures { λ r. ⌜ BuiltBy (buildTree (requestOf (now (profile .entry)) (ingress .0) (source .0) (destination .0) (now (include .entry)) (now (exclude .entry)) limits) room) room r ⌝ }
+) -> TableResult
+    ensures { λ r. ⌜ TableResultIs (buildTree (requestOf (now (profile .entry)) (ingress .0) (source .0) (destination .0) (now (include .entry)) (now (exclude .entry)) limits) room) room r ⌝ }
 {
     let mut addresses = [0u32; 242];
     let mut reaches = [0u32; 242];
@@ -53,7 +53,7 @@ pub fn build(
     let n = solved.count;
     let mut level = [0u32; 241];
     put_levels(&starts, solved.places, &mut level);
-    Built {
+    TableResult {
         answer,
         count: n,
         table: TreeTable {

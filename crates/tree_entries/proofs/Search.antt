@@ -8,7 +8,7 @@ use lib.ListN.{length, drop, getD}
 use lib.Seq.{drop-cons, drop-length}
 use borrow.Author.Tests.{lt-ltb, le-ltb}
 use Rattle.model.specs.declared.TreeEntry.{TreeEntry}
-use Rattle.tree_entries.specs.declared.Found.the-variants.{Nothing}
+use Rattle.tree_entries.specs.declared.EntryPlace.the-variants.{Nothing}
 use Rattle.tree_entries.specs.Entries.{isEntry, atOrFurther, findFrom, foundBelow}
 
 module _ (level address : ℕ) (es : List TreeEntry) where

@@ -17,12 +17,11 @@ use prog.Wp.{Heap, Env, Calls, Loops, Out, Tables, afterTurn}
 use ghost.Atoms.{Atoms, sem}
 use sound.WpLaws.{FmC}
 use contract.Monad.{fact}
-use types.Kit.{Given, Item, Goal, Soaks, Post, Seq, Sq, Step, step, runs, lands, anyQ, ‵, raw, _⊛_, some, later, ⋆, _$_, _∵_, !, qed, move, drop, use0, use1, split, pick, fsplit, await}
+use types.Kit.{Given, Item, Goal, Soaks, Post, Seq, Sq, Step, step, runs, lands, anyQ, ‵, raw, _⊛_, some, later, ⋆, _$_, _∵_, !, qed, move, drop, use0, use1, split, pick, await}
 use types.Run.{Opds, Below, again, loops}
 use denote.RattleType.{RattleType}
 use denote.Laws.{Is, shows}
-use denote.Ref.{RefT}
-use denote.Slice.{MutSlice, heres, codedHoleys, finally, res-finally}
+use denote.Slice.{heres, codedHoleys, finally, res-finally}
 use denote.Lend.{Held}
 use denote.Index.{row, closes-slice}
 use denote.Steps.{facts, heard}

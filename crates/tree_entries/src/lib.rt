@@ -3,7 +3,7 @@
 // call is covered.
 use model::NodeAddress;
 use model::TreeEntry;
-use reaches::UNREACHABLE;
+use tree_reaches::UNREACHABLE;
 ghost use mathlib.Core.Path.{_≡_};
 ghost use Prim.Native.Nat.{_<_, _≤_};
 ghost use lib.ListN.{length};
@@ -18,7 +18,7 @@ pub struct TreeTable {
 }
 
 // The place of an entry in the slice.
-pub enum Found {
+pub enum EntryPlace {
     At(usize),
     Nothing,
 }
@@ -64,14 +64,18 @@ fn is_entry(e: TreeEntry, level: u32, address: NodeAddress) -> bool
     (e.level == level) & (e.address.0 == address.0)
 }
 
-fn found_at(i: usize, n: usize) -> Found
+fn found_at(i: usize, n: usize) -> EntryPlace
     ensures { λ r. ⌜ r ≡ foundBelow i n ⌝ }
 {
-    if i < n { Found::At(i) } else { Found::Nothing }
+    if i < n {
+        EntryPlace::At(i)
+    } else {
+        EntryPlace::Nothing
+    }
 }
 
 // The first entry of this level and address.
-pub fn find(entries: &[TreeEntry], level: u32, address: NodeAddress) -> Found
+pub fn find(entries: &[TreeEntry], level: u32, address: NodeAddress) -> EntryPlace
     ensures { λ r. ⌜ r ≡ findFrom level (address .0) 0 (now (entries .entry)) ⌝ }
 {
     let mut at = 0;

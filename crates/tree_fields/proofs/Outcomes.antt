@@ -26,21 +26,21 @@ use Rattle.laws.proofs.AcceptedPaths.{accepted-costs}
 use Rattle.request.specs.declared.Query.{Query}
 use Rattle.request.specs.Query.{searchFor, roundFor, Ready}
 use Rattle.request.proofs.Requests.{ready-in}
-use Rattle.levels.specs.Levels.{startOf}
-use Rattle.rounds.specs.declared.Settled.{Settled}
-use Rattle.rounds.specs.Settled.{SettledIs}
-use Rattle.vspt.proofs.Sequences.{stops-long}
-use Rattle.tree_put.specs.Fields.{levelsOf}
-use Rattle.tree_fields.specs.declared.Solved.{Solved}
-use Rattle.tree_fields.specs.Solved.{treeOutcome, treeFor, Held, SolvedBy}
+use Rattle.tree_levels.specs.Levels.{startOf}
+use Rattle.tree_rounds.specs.declared.ChosenRound.{ChosenRound}
+use Rattle.tree_rounds.specs.ChosenRound.{ChosenRoundIs}
+use Rattle.tree_vspt.proofs.Sequences.{stops-long}
+use Rattle.tree_fields.specs.Fields.{levelsOf}
+use Rattle.tree_fields.specs.declared.TreeResult.{TreeResult}
+use Rattle.tree_fields.specs.TreeResult.{treeOutcome, treeFor, Held, TreeResultIs}
 use Rattle.tree_fields.proofs.Whole.{tree-length, most, starts-at, held}
 use Rattle.model.specs.Lists.{countFrom, each}
 
-abbrev pub refusal : Refusal → Solved
+abbrev pub refusal : Refusal → TreeResult
 refusal r = record { answer = Refused r; count = 0; places = 0 }
 
 -- nothing is written, whatever the lists hold
-pub refused-outcome : (r : Refusal) (room : ℕ) (addresses codes starts : List ℕ) → SolvedBy (nothing (refused4 r)) room addresses codes starts (refusal r)
+pub refused-outcome : (r : Refusal) (room : ℕ) (addresses codes starts : List ℕ) → TreeResultIs (nothing (refused4 r)) room addresses codes starts (refusal r)
 unfolding levelsOf each countFrom
 refused-outcome r room addresses codes starts =
     record {
@@ -63,7 +63,7 @@ refused-outcome r room addresses codes starts =
 
 module _
     (s exclude : List ℕ) (q : Query) (room : ℕ) (ready : Ready version1 s exclude q)
-    (addresses codes starts firsts lasts : List ℕ) (r : Settled) (is : SettledIs version1 s exclude q addresses codes starts firsts lasts r)
+    (addresses codes starts firsts lasts : List ℕ) (r : ChosenRound) (is : ChosenRoundIs version1 s exclude q addresses codes starts firsts lasts r)
   where
     abbrev p : Query
     p = r .query
@@ -100,29 +100,29 @@ module _
         twice Second n = omega arith
 
     -- what is said of the settled query is said of the given one
-    given-query : (x : Solved) → SolvedBy (treeOutcome (p .round) S room) room addresses codes starts x → SolvedBy (treeFor s exclude q room) room addresses codes starts x
-    given-query x = subst (λ (y : Query). SolvedBy (treeOutcome (y .round) (searchFor version1 s exclude y) room) room addresses codes starts x) (is .query-is)
+    given-query : (x : TreeResult) → TreeResultIs (treeOutcome (p .round) S room) room addresses codes starts x → TreeResultIs (treeFor s exclude q room) room addresses codes starts x
+    given-query x = subst (λ (y : Query). TreeResultIs (treeOutcome (y .round) (searchFor version1 s exclude y) room) room addresses codes starts x) (is .query-is)
 
-    pub too-small : room < getD starts (p .count) 0 → SolvedBy (treeFor s exclude q room) room addresses codes starts (refusal (record { number = 34; place = 0 }))
+    pub too-small : room < getD starts (p .count) 0 → TreeResultIs (treeFor s exclude q room) room addresses codes starts (refusal (record { number = 34; place = 0 }))
     too-small h =
         let e : room < length (tree S) = omega (arith, counted, tree-length S) in
         given-query (refusal (record { number = 34; place = 0 }))
-        (subst (λ (o : Outcome TreeEntry). SolvedBy o room addresses codes starts (refusal (record { number = 34; place = 0 })))
+        (subst (λ (o : Outcome TreeEntry). TreeResultIs o room addresses codes starts (refusal (record { number = 34; place = 0 })))
         (sym (ap (λ (b : Bool). answerTree (refuseIf b 34 0) (p .round) S) (lt-ltb room (length (tree S)) e)))
         (refused-outcome (record { number = 34; place = 0 }) room addresses codes starts))
 
     -- the whole tree
-    abbrev all : Solved
+    abbrev all : TreeResult
     all = record { answer = Built (getD starts (p .count) 0) (r .tally) (p .round); count = getD starts (p .count) 0; places = p .count }
 
     tally-is : r .tally ≡ overRounds (p .round) (tally S)
     tally-is = is .tally-is ∙ ap₂ overRounds (sym (ap (λ (y : Query). y .round) (is .query-is))) (is .worked .laid .tally-is)
 
-    pub enough : getD starts (p .count) 0 ≤ room → SolvedBy (treeFor s exclude q room) room addresses codes starts all
+    pub enough : getD starts (p .count) 0 ≤ room → TreeResultIs (treeFor s exclude q room) room addresses codes starts all
     enough h =
         let e : length (tree S) ≤ room = omega (arith, counted, tree-length S) in
         given-query all
-        (subst (λ (o : Outcome TreeEntry). SolvedBy o room addresses codes starts all)
+        (subst (λ (o : Outcome TreeEntry). TreeResultIs o room addresses codes starts all)
         (sym (ap (λ (b : Bool). answerTree (refuseIf b 34 0) (p .round) S) (le-ltb room (length (tree S)) e)))
         (record {
           numbers = ap₂ (λ (n m : ℕ). done4 n m (p .round)) (counted ∙ sym (tree-length S)) tally-is;

@@ -7,8 +7,8 @@ use lib.ListN.{length, take, length-map}
 use lib.Seq.{length-take-le}
 use Rattle.model.specs.declared.TreeEntry.{TreeEntry}
 use Rattle.model.specs.Lists.{over}
-use Rattle.tree_put.specs.Fields.{level, address, mark, cost, markOf, costOf, levelsOf, Places}
-use Rattle.tree_fields.specs.Solved.{Held}
+use Rattle.tree_fields.specs.Fields.{level, address, mark, cost, markOf, costOf, levelsOf, Places}
+use Rattle.tree_fields.specs.TreeResult.{Held}
 
 -- more room does no harm
 pub places-within : (count : ℕ) (starts : List ℕ) (n m : ℕ) → Places count starts n → n ≤ m → Places count starts m

@@ -1,4 +1,4 @@
--- The tree in numbers holds the entries of `tree`, field by field: each field of the tree's entries is a list over the places, and so is what `vspt` works out.
+-- The tree in numbers holds the entries of `tree`, field by field: each field of the tree's entries is a list over the places, and so is what `tree_vspt` works out.
 -- By recursion over the places.
 use Prim.Native.Nat.{ℕ, zero, suc, _+_, _-_, _≤_, _<_}
 use native.Mathlib.Nat.{zero-add}
@@ -16,17 +16,17 @@ use Rattle.model.specs.Profile.{Layout, costLimit}
 use Rattle.model.specs.Request.{Search}
 use Rattle.model.specs.Tree.{entriesAt, entry, tree}
 use Rattle.laws.proofs.Lists.{map-append, countFrom-mem}
-use Rattle.laws.proofs.Reach.{Reach}
+use Rattle.laws.specs.Reach.{Reach}
 use Rattle.laws.proofs.TreeLeast.{entry-is}
-use Rattle.levels.specs.Levels.{nodesIf, nodesAt, nodesUpTo, startOf}
-use Rattle.levels.proofs.Blocks.{each-next}
-use Rattle.reaches.specs.Reaches.{codeAt}
-use Rattle.vspt.specs.Tree.{codesFrom, WorkedOut}
-use Rattle.vspt.proofs.Filled.{level-long, codes-long, end-nodes}
-use Rattle.vspt.proofs.Known.{reach-back}
-use Rattle.tree_put.specs.Fields.{markIf, level, address, mark, cost, markOf, costOf, levelsAt, levelsOf}
-use Rattle.tree_put.proofs.Fields.{map-same}
-use Rattle.tree_fields.specs.Solved.{Held}
+use Rattle.tree_levels.specs.Levels.{nodesIf, nodesAt, nodesUpTo, startOf}
+use Rattle.tree_levels.proofs.Blocks.{each-next}
+use Rattle.tree_reaches.specs.Reaches.{codeAt}
+use Rattle.tree_vspt.specs.Tree.{codesFrom, WorkedOut}
+use Rattle.tree_vspt.proofs.Filled.{level-long, codes-long, end-nodes}
+use Rattle.tree_vspt.proofs.Known.{reach-back}
+use Rattle.tree_fields.specs.Fields.{markIf, level, address, mark, cost, markOf, costOf, levelsAt, levelsOf}
+use Rattle.tree_fields.proofs.Fields.{map-same}
+use Rattle.tree_fields.specs.TreeResult.{Held}
 
 -- ---- lists over lists
 

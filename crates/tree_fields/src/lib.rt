@@ -1,38 +1,41 @@
 // A request's tree in numbers: every check before 34, the tree worked out in the round that applies, and 34; and its fields in four lent buffers.
+use crate::put::put_addresses;
+use crate::put::put_costs;
+use crate::put::put_levels;
+use crate::put::put_marks;
+use buffers::lesser;
 use model::DomainIndex;
 use model::Limits;
 use model::NodeAddress;
 use model::Refusal;
 use model::TreeAnswer;
 use model::Verdict;
-use records::layout::first_version;
+use profile_records::layout::first_version;
 use request::Query;
 use request::check_request;
-use rounds::settle;
-use tree_put::put_addresses;
-use tree_put::put_costs;
-use tree_put::put_levels;
-use tree_put::put_marks;
+use tree_rounds::settle;
 ghost use mathlib.Core.Path.{_≡_};
-ghost use Prim.Native.Nat.{min};
 ghost use lib.ListN.{length};
 ghost use Rattle.model.specs.Profile.{version1};
 ghost use Rattle.model.specs.Calls.{buildTree};
-ghost use Rattle.request.specs.Checked.{requestOf};
+ghost use Rattle.request.specs.CheckedRequest.{requestOf};
 ghost use Rattle.request.specs.Query.{Ready};
-ghost use Rattle.tree_fields.specs.Solved.{treeFor, SolvedBy, least4, TreeIn};
+ghost use Rattle.buffers.specs.Capacity.{least4};
+ghost use Rattle.tree_fields.specs.TreeResult.{treeFor, TreeResultIs, TreeIn};
+
+pub mod put;
 
 // A tree in numbers: the answer, how many entries are to be written and how many places they have; nothing on a refusal.
-pub struct Solved {
+pub struct TreeResult {
     pub answer: TreeAnswer,
     pub count: usize,
     pub places: usize,
 }
 
-fn refused(r: Refusal) -> Solved
+fn refused(r: Refusal) -> TreeResult
     ensures { λ x. ⌜ x ≡ record { answer = TreeAnswer.Refused r; count = 0; places = 0 } ⌝ }
 {
-    Solved {
+    TreeResult {
         answer: TreeAnswer::Refused(r),
         count: 0,
         places: 0,
@@ -48,10 +51,10 @@ fn solve_query(
     addresses: &mut [u32; 242],
     reaches: &mut [u32; 242],
     starts: &mut [usize; 18],
-) -> Solved
+) -> TreeResult
     requires { ⌜ Ready version1 (now profile) (now exclude) q ⌝ }
     requires { ⌜ (length (now addresses) ≡ 242) × (length (now reaches) ≡ 242) × (length (now starts) ≡ 18) ⌝ }
-    ensures { λ r. ⌜ SolvedBy (treeFor (now (profile .entry)) (now (exclude .entry)) q room) room (now (addresses .exit)) (now (reaches .exit)) (now (starts .exit)) r ⌝ }
+    ensures { λ r. ⌜ TreeResultIs (treeFor (now (profile .entry)) (now (exclude .entry)) q room) room (now (addresses .exit)) (now (reaches .exit)) (now (starts .exit)) r ⌝ }
 {
     let mut firsts = [0usize; 16];
     let mut lasts = [0usize; 16];
@@ -77,7 +80,7 @@ fn solve_query(
             place: 0,
         });
     }
-    Solved {
+    TreeResult {
         answer: TreeAnswer::Built {
             entries: count as u32,
             tally: settled.tally as u32,
@@ -101,9 +104,9 @@ pub fn solve(
     addresses: &mut [u32; 242],
     reaches: &mut [u32; 242],
     starts: &mut [usize; 18],
-) -> Solved
+) -> TreeResult
     requires { ⌜ (length (now addresses) ≡ 242) × (length (now reaches) ≡ 242) × (length (now starts) ≡ 18) ⌝ }
-    ensures { λ r. ⌜ SolvedBy (buildTree (requestOf (now (profile .entry)) (ingress .0) (source .0) (destination .0) (now (include .entry)) (now (exclude .entry)) limits) room) room (now (addresses .exit)) (now (reaches .exit)) (now (starts .exit)) r ⌝ }
+    ensures { λ r. ⌜ TreeResultIs (buildTree (requestOf (now (profile .entry)) (ingress .0) (source .0) (destination .0) (now (include .entry)) (now (exclude .entry)) limits) room) room (now (addresses .exit)) (now (reaches .exit)) (now (starts .exit)) r ⌝ }
 {
     let checked = check_request(
         profile,
@@ -120,16 +123,6 @@ pub fn solve(
     }
     let q = checked.query;
     solve_query(profile, exclude, q, room, addresses, reaches, starts)
-}
-
-// The lesser of two counts.
-fn lesser(a: usize, b: usize) -> usize
-    ensures { λ r. ⌜ r ≡ min a b ⌝ }
-{
-    if a <= b {
-        return a;
-    }
-    b
 }
 
 // The tree's fields in four lent buffers. On a refusal they keep what they held.

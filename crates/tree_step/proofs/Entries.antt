@@ -14,7 +14,7 @@ use Rattle.model.specs.Exclusion.{inForce, excludedNode}
 use Rattle.model.specs.Path.{keepsPin}
 use Rattle.model.specs.WrittenList.{pinIf}
 use Rattle.laws.proofs.Tests.{and-none, and-all}
-use Rattle.reaches.specs.Reaches.{beside, Small, NextPlace}
+use Rattle.tree_reaches.specs.Reaches.{beside, Small, NextPlace}
 use Rattle.tree_step.specs.Step.{allowedBy}
 
 pub pin-some : (m n : ℕ) → (m ≡ 0 → ⊥) → pinIf m n ≡ some n

@@ -11,10 +11,10 @@ use Rattle.model.specs.Subobject.{subobjects}
 use Rattle.model.specs.Exclusion.{inForce, excludedNode}
 use Rattle.model.specs.Path.{keepsPin}
 use Rattle.model.specs.WrittenList.{pinIf}
-use Rattle.laws.proofs.Reach.{Reach, unreached, reachIf, bestFrom}
-use Rattle.hop_range.specs.Ranges.{leavesNode}
+use Rattle.laws.specs.Reach.{Reach, unreached, reachIf, bestFrom}
+use Rattle.profile_hop_range.specs.Ranges.{leavesNode}
 use Rattle.tree_step.specs.declared.Leg.{Leg}
-use Rattle.reaches.specs.Reaches.{codeOf, wayOn}
+use Rattle.tree_reaches.specs.Reaches.{codeOf, wayOn}
 
 -- a node may be an entry in a round: it isn't excluded, its domain isn't either, and the entry constraint is kept
 abbrev pub allowedBy : Round → List ℕ → Bool → ℕ → ℕ → ℕ → Bool

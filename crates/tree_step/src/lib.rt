@@ -1,13 +1,13 @@
 // One domain's step: the reaches of its entries, worked out from those of the next place.
-use exclusion::excludes_node;
-use hop_range::HopRange;
-use hop_range::tail_range;
+use list_exclusion::excludes_node;
 use model::DomainIndex;
 use model::NodeAddress;
 use model::Round;
-use reaches::UNREACHABLE;
-use reaches::best_from;
-use records::layout::Layout;
+use profile_hop_range::HopRange;
+use profile_hop_range::tail_range;
+use profile_records::layout::Layout;
+use tree_reaches::UNREACHABLE;
+use tree_reaches::best_from;
 ghost use mathlib.Core.Path.{_≡_};
 ghost use mathlib.Core.Bool.{true};
 ghost use Prim.Native.Nat.{_≤_, _-_};
@@ -19,9 +19,9 @@ ghost use Rattle.model.specs.Path.{keepsPin};
 ghost use Rattle.model.specs.Profile.{profileVerdict, costLimit};
 ghost use Rattle.model.specs.Subobject.{formVerdict};
 ghost use Rattle.model.specs.WrittenList.{pinIf};
-ghost use Rattle.records.specs.Layout.{layoutOf, Sound};
-ghost use Rattle.hop_range.specs.Ranges.{PairRange};
-ghost use Rattle.reaches.specs.Reaches.{reachOf, NextPlace};
+ghost use Rattle.profile_records.specs.Layout.{layoutOf, SoundLayout};
+ghost use Rattle.profile_hop_range.specs.Ranges.{PairRange};
+ghost use Rattle.tree_reaches.specs.Reaches.{reachOf, NextPlace};
 ghost use Rattle.tree_step.specs.Step.{allowedBy, entryReach, levelCodes};
 
 // A leg of the sequence as a step needs it: its two domains and their hop records; the round, whether the first domain is excluded in it, and
@@ -76,7 +76,7 @@ fn entry_reach(
     addresses: &[u32],
     reaches: &[u32],
 ) -> u32
-    requires { ⌜ Sound (layoutOf layout) × (layoutOf layout .mostCost ≤ costLimit) × (profileVerdict (layoutOf layout) (now s) ≡ Pass) ⌝ }
+    requires { ⌜ SoundLayout (layoutOf layout) × (layoutOf layout .mostCost ≤ costLimit) × (profileVerdict (layoutOf layout) (now s) ≡ Pass) ⌝ }
     requires { ⌜ (formVerdict Exclude (now exclude) ≡ Pass) × (inRange asked ≡ true) ⌝ }
     requires { ⌜ PairRange (layoutOf layout) (now s) (leg .from .0) (leg .to .0) (leg .hops .first) (leg .hops .last) ⌝ }
     requires { ⌜ NextPlace (now addresses) (now reaches) (leg .next) (leg .end) ⌝ }
@@ -112,7 +112,7 @@ pub fn fill_level(
     addresses: &[u32],
     reaches: &mut [u32],
 )
-    requires { ⌜ Sound (layoutOf layout) × (layoutOf layout .mostCost ≤ costLimit) × (profileVerdict (layoutOf layout) (now s) ≡ Pass) ⌝ }
+    requires { ⌜ SoundLayout (layoutOf layout) × (layoutOf layout .mostCost ≤ costLimit) × (profileVerdict (layoutOf layout) (now s) ≡ Pass) ⌝ }
     requires { ⌜ (formVerdict Exclude (now exclude) ≡ Pass) × (inRange asked ≡ true) ⌝ }
     requires { ⌜ PairRange (layoutOf layout) (now s) (leg .from .0) (leg .to .0) (leg .hops .first) (leg .hops .last) ⌝ }
     requires { ⌜ (leg .start ≤ leg .next) × NextPlace (now addresses) (now reaches) (leg .next) (leg .end) ⌝ }

@@ -1,4 +1,4 @@
--- `keeps_bound` meets its contract: at 64 bits the machine's comparison is that of exact values.
+-- `bound::keeps_bound` meets its contract: at 64 bits the machine's comparison is that of exact values.
 -- Assumes nothing.
 use mathlib.Core.Path.{sym, ap, _∙_}
 use mathlib.Core.Bool.{Bool, false}

@@ -1,4 +1,4 @@
--- `total_float` meets its contract: the library's cast gives the nearest float, which is in range.
+-- `bound::total_float` meets its contract: the library's cast gives the nearest float, which is in range.
 -- Assumes nothing.
 use mathlib.Core.Path.{ap, _∙_}
 use Rattle.model.specs.Floats.{floatOf, inRange}

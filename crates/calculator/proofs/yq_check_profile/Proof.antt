@@ -1,4 +1,4 @@
--- `yq_check_profile` meets its contract: each arm stores the numbers that `numbersOfProfile` gives for it.
+-- `calculator::yq_check_profile` meets its contract: each arm stores the numbers that `numbersOfProfile` gives for it.
 use borrow.Author.Needs.{needs}
 use Rattle.model.specs.Answers.{Numbers, numbersOfProfile}
 use mathlib.Core.Path.{sym, ap, _∙_}

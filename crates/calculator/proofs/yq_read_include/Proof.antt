@@ -1,4 +1,4 @@
--- `yq_read_include` meets its contract: what the call answers is told.
+-- `calculator::yq_read_include` meets its contract: what the call answers is told.
 use Rattle.calculator.proofs.Exported.{read-export}
 use borrow.Author.Needs.{needs}
 use Rattle.calculator.proofs.yq_read_include.Statement.{statement}

@@ -1,9 +1,10 @@
--- `yq_tree` meets its contract: the limits are those of the bits, and what the call answers is told.
-use mathlib.Core.Path.{_≡_, subst}
+-- `calculator::yq_tree` meets its contract: the limits are those of the bits, and what the call answers is told.
+use mathlib.Core.Path.{subst}
 use Rattle.model.specs.declared.Limits.{Limits}
 use Rattle.model.specs.Calls.{buildTree}
-use Rattle.request.specs.Checked.{requestOf}
-use Rattle.tree_fields.specs.Solved.{least4, TreeIn}
+use Rattle.request.specs.CheckedRequest.{requestOf}
+use Rattle.buffers.specs.Capacity.{least4}
+use Rattle.tree_fields.specs.TreeResult.{TreeIn}
 use Rattle.calculator.proofs.Exported.{tree-export}
 use borrow.Author.Needs.{needs}
 use Rattle.calculator.proofs.yq_tree.Statement.{statement}

@@ -1,4 +1,4 @@
--- `yq_write_list` meets its contract: what the call answers is told.
+-- `calculator::yq_write_list` meets its contract: what the call answers is told.
 use Rattle.model.specs.Answers.{numbersOfWrite}
 use Rattle.calculator.proofs.Exported.{write-export}
 use borrow.Author.Needs.{needs}

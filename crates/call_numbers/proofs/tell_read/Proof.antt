@@ -1,4 +1,4 @@
--- `tell_read` meets its contract: each arm stores the numbers that `numbersOfRead` gives for it.
+-- `call_numbers::tell_read` meets its contract: each arm stores the numbers that `numbersOfRead` gives for it.
 use mathlib.Core.Path.{sym, ap}
 use Rattle.model.specs.Answers.{Numbers, numbersOfRead}
 use borrow.Author.Needs.{needs}

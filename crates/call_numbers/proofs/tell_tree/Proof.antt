@@ -1,4 +1,4 @@
--- `tell_tree` meets its contract: each arm stores the numbers that `numbersOfTree` gives for it.
+-- `call_numbers::tell_tree` meets its contract: each arm stores the numbers that `numbersOfTree` gives for it.
 use mathlib.Core.Path.{sym, ap}
 use Rattle.model.specs.Answers.{Numbers, numbersOfTree}
 use borrow.Author.Needs.{needs}

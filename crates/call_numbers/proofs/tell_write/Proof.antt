@@ -1,4 +1,4 @@
--- `tell_write` meets its contract: each arm stores the numbers that `numbersOfWrite` gives for it.
+-- `call_numbers::tell_write` meets its contract: each arm stores the numbers that `numbersOfWrite` gives for it.
 use mathlib.Core.Path.{sym, ap}
 use Rattle.model.specs.Answers.{Numbers, numbersOfWrite}
 use borrow.Author.Needs.{needs}

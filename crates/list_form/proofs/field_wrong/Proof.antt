@@ -5,7 +5,7 @@ use mathlib.Core.Path.{ap, _∙_}
 use mathlib.Core.Bool.{not}
 use Rattle.model.specs.Subobject.{areaLengthAt}
 use Rattle.list_form.specs.Checks.{zeroFrom}
-use Rattle.subobject.proofs.FormLaws.{room-1, padded}
+use Rattle.list_subobject.proofs.FormLaws.{room-1, padded}
 use Rattle.list_form.proofs.FormChecks.{padding, field-1, field-7, field-none}
 use borrow.Author.Needs.{needs}
 use Rattle.list_form.proofs.field_wrong.Statement.{statement}

@@ -6,8 +6,9 @@ use borrow.Author.Needs.{needs}
 use lib.ListN.{length}
 use Rattle.model.specs.declared.Verdict.the-variants.{Pass}
 use Rattle.model.specs.Subobject.{formVerdict, subobjectVerdict}
-use Rattle.laws.proofs.Walk.{right-subobject, formLeft, form-whole, form-end, form-refused, form-next}
-use Rattle.subobject.proofs.FormLaws.{readable}
+use Rattle.laws.specs.Left.{formLeft}
+use Rattle.laws.proofs.Walk.{right-subobject, form-whole, form-end, form-refused, form-next}
+use Rattle.list_subobject.proofs.FormLaws.{readable}
 use Rattle.list_form.proofs.form.Statement.{statement}
 use Rattle.list_form.proofs.form.Tie as tie
 

@@ -5,7 +5,7 @@ use mathlib.Core.Bool.{false}
 use lib.Dec.{eqb, leb}
 use borrow.Author.Tests.{eq-eqb, ne-eqb}
 use Rattle.model.specs.Subobject.{topWrong}
-use Rattle.subobject.specs.Lengths.{lengthOf}
+use Rattle.list_subobject.specs.Lengths.{lengthOf}
 use borrow.Author.Needs.{needs}
 use Rattle.list_form.specs.Checks.{headWrong}
 use Rattle.list_form.proofs.head_wrong.Statement.{statement}

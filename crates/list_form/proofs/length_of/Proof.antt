@@ -1,10 +1,8 @@
 -- `list_form::length_of` meets its contract: the tests are the rows of the table of length rules, in their order.
-use Prim.Native.Nat.{ℕ, _+_, _*_}
-use mathlib.Core.Path.{_≡_, refl, sym, ap, _∙_}
+use mathlib.Core.Path.{refl}
 use native.Mathlib.Omega.{arith}
 use borrow.Author.Tests.{eq-eqb, ne-eqb}
-use Rattle.model.specs.Subobject.{roundedUp}
-use Rattle.subobject.specs.Lengths.{lengthIn, lengthOf}
+use Rattle.list_subobject.specs.Lengths.{lengthIn, lengthOf}
 use borrow.Author.Needs.{needs}
 use Rattle.list_form.proofs.length_of.Statement.{statement}
 use Rattle.list_form.proofs.length_of.Tie as tie

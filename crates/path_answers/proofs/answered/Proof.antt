@@ -1,18 +1,14 @@
--- `answered` meets its contract, by whether a path was found.
+-- `path_answers::answered` meets its contract, by whether a path was found.
 -- Assumes nothing.
 use native.Mathlib.Numerals.{add-one}
 use borrow.Author.Tests.{not-true, not-false}
 use Rattle.model.specs.Path.{shortestPaths}
 use Rattle.model.specs.Calls.{greaterThan}
-use Rattle.path_answers.specs.Routed.{noneNumber}
+use Rattle.path_answers.specs.PathReply.{noneNumber}
 use Rattle.path_answers.proofs.Answers.{none-by, found-by}
 use borrow.Author.Needs.{needs}
 use Rattle.path_answers.proofs.answered.Statement.{statement}
 use Rattle.path_answers.proofs.answered.Tie as tie
-use Rattle.path_answers.proofs.answered.Reads as reads
-use Rattle.path_answers.proofs.answered.Lts as lts
-use Rattle.bound.proofs.total_float.Reads as total-float-reads
-use Rattle.path_answers.proofs.none_answer.Reads as none-answer-reads
 
 none-answer-requires : tie.Need-none-answer-requires
 none-answer-requires c κs = search needs

@@ -1,13 +1,9 @@
--- `refused` meets its contract: nothing is written, and the numbers are the refusal's.
+-- `path_answers::refused` meets its contract: nothing is written, and the numbers are the refusal's.
 -- Assumes nothing.
-use mathlib.Core.Path.{_≡_, refl, sym}
-use mathlib.Core.Bool.{true}
-use native.Mathlib.Omega.{arith}
+use mathlib.Core.Path.{refl}
 use Rattle.path_answers.proofs.Answers.{refused-by}
 use Rattle.path_answers.proofs.refused.Statement.{statement}
 use Rattle.path_answers.proofs.refused.Tie as tie
-use Rattle.path_answers.proofs.refused.Reads as reads
-use Rattle.path_answers.proofs.refused.Lts as lts
 
 returns : tie.Need-returns
 returns c = λ room. refused-by (c .args .r) room _ refl

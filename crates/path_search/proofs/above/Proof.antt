@@ -1,28 +1,19 @@
--- `above` meets its contract, by how the given list starts.
+-- `path_search::above` meets its contract, by how the given list starts.
 -- Assumes nothing.
-use mathlib.Core.Path.{_≡_, refl, sym, ap, subst, _∙_}
-use mathlib.Core.List.{List}
+use mathlib.Core.Path.{sym, ap, _∙_}
 use mathlib.Core.Option.{Option}
-use Prim.Native.Nat.{ℕ, suc, _≤_}
-use native.Mathlib.Omega.{arith}
 use native.Mathlib.Nat.{zero-add}
-use lib.ListN.{length, drop}
+use lib.ListN.{drop}
 use Rattle.model.specs.Path.{Route, legs}
-use Rattle.laws.proofs.NextSplit.{nextAfter}
-use Rattle.laws.proofs.Split.{firstFrom}
-use Rattle.records.specs.Layout.{layoutOf}
-use Rattle.descent.specs.Routes.{isFound, routed, Written}
-use Rattle.descent.proofs.Found.{reached, any-first, nothing-written}
+use Rattle.laws.specs.Descent.{nextAfter}
+use Rattle.laws.specs.Descent.{firstFrom}
+use Rattle.path_descent.specs.Routes.{isFound, routed}
+use Rattle.path_descent.proofs.Found.{reached, any-first, nothing-written}
 use Rattle.path_search.specs.declared.Start.{Start}
 use Rattle.path_search.proofs.Starts.{by, next-by, same-some}
 use borrow.Author.Needs.{needs}
 use Rattle.path_search.proofs.above.Statement.{statement}
 use Rattle.path_search.proofs.above.Tie as tie
-use Rattle.path_search.proofs.above.Reads as reads
-use Rattle.path_search.proofs.above.Lts as lts
-use Rattle.descent.proofs.first_by.Reads as first-by-reads
-use Rattle.descent.proofs.next_after.Reads as next-after-reads
-use Rattle.path_search.proofs.start_of.Reads as start-of-reads
 
 start-of-requires : tie.Need-start-of-requires
 start-of-requires c κs = search needs

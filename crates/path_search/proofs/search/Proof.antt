@@ -1,4 +1,4 @@
--- `search` meets its contract: the tree is worked out in the round that applies, the bound asked of the source's number, and what is found above the given
+-- `path_search::search` meets its contract: the tree is worked out in the round that applies, the bound asked of the source's number, and what is found above the given
 -- list written.
 use mathlib.Core.Path.{_≡_, refl, sym, _∙_}
 use mathlib.Core.Bool.{true, true≢false}
@@ -7,12 +7,12 @@ use native.Mathlib.Omega.{arith}
 use borrow.Author.Needs.{needs}
 use borrow.Author.Tests.{not-true, not-false}
 use lib.ListN.{getD}
-use Rattle.records.specs.Layout.{layoutOf}
+use Rattle.profile_records.specs.Layout.{layoutOf}
 use Rattle.request.specs.declared.Query.{Query}
 use Rattle.request.specs.Query.{searchFor, Ready}
-use Rattle.reaches.specs.Reaches.{codeAt}
-use Rattle.onward.specs.Worked.{Worked}
-use Rattle.rounds.proofs.Source.{source-number}
+use Rattle.tree_reaches.specs.Reaches.{codeAt}
+use Rattle.path_step.specs.Worked.{Worked}
+use Rattle.tree_rounds.proofs.Source.{source-number}
 use Rattle.path_search.proofs.Searching.{worked-for, stands, some-way, sought-none, sought, ready-settled, fits-settled, sought-for}
 use Rattle.path_search.proofs.search.Statement.{statement}
 use Rattle.path_search.proofs.search.Tie as tie

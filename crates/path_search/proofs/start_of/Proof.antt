@@ -1,15 +1,10 @@
--- `start_of` meets its contract: the first address, where there is one, against the source.
+-- `path_search::start_of` meets its contract: the first address, where there is one, against the source.
 -- Assumes nothing.
-use mathlib.Core.Path.{_≡_, refl, sym, ap, ap₂, _∙_}
-use mathlib.Core.Bool.{Bool, true, false}
-use mathlib.Core.List.{List, [], _∷_}
 use native.Mathlib.Omega.{arith}
 use Rattle.path_search.proofs.Starts.{start-none, start-before, start-same, start-behind}
 use borrow.Author.Needs.{needs}
 use Rattle.path_search.proofs.start_of.Statement.{statement}
 use Rattle.path_search.proofs.start_of.Tie as tie
-use Rattle.path_search.proofs.start_of.Reads as reads
-use Rattle.path_search.proofs.start_of.Lts as lts
 
 returns : tie.Need-returns
 returns c = let a = c .before .args in start-none (a .given .now) (a .source .0) (c .if1 .taken)

@@ -1,4 +1,4 @@
--- `frame` meets its contract: each `return` is one of the ways in which the checks come out (`Frames`).
+-- `pcep_message::frame` meets its contract: each `return` is one of the ways in which the checks come out (`Frames`).
 use mathlib.Core.Path.{refl, sym, _∙_}
 use Rattle.pcep_message.proofs.Frames.{by-header, by-object, by-missing}
 use borrow.Author.Needs.{needs}

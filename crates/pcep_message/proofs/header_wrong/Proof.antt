@@ -1,4 +1,4 @@
--- `header_wrong` meets its contract: the tests that led to each `return` are those of `headerWrong` in their order.
+-- `pcep_message::header_wrong` meets its contract: the tests that led to each `return` are those of `headerWrong` in their order.
 use Prim.Native.Nat.{_/_}
 use mathlib.Core.Path.{refl, sym, _∙_}
 use lib.ListN.{length, getD}

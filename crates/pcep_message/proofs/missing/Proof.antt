@@ -1,4 +1,4 @@
--- `missing` meets its contract: by its tests.
+-- `pcep_message::missing` meets its contract: by its tests.
 use mathlib.Core.Path.{refl}
 use lib.ListN.{getD}
 use borrow.Author.Tests.{eq-eqb, ne-eqb}

@@ -1,4 +1,4 @@
--- `is_metric` meets its contract: class and type are those that it tests.
+-- `pcep_metrics::is_metric` meets its contract: class and type are those that it tests.
 use mathlib.Core.Path.{refl}
 use lib.ListN.{getD}
 use borrow.Author.Tests.{eq-eqb, ne-eqb}

@@ -1,4 +1,4 @@
--- `judge` meets its contract. The loop's invariant is `Judging`; the measure is what is left of the message.
+-- `pcep_metrics::judge` meets its contract. The loop's invariant is `Judging`; the measure is what is left of the message.
 use Prim.Native.Nat.{_-_, _+_, _≤_}
 use native.Mathlib.Omega.{arith}
 use lib.ListN.{length}

@@ -1,4 +1,4 @@
--- `next_metric` meets its contract. The loop's invariant: none is passed. The measure is what is left of the message.
+-- `pcep_metrics::next_metric` meets its contract. The loop's invariant: none is passed. The measure is what is left of the message.
 use Prim.Native.Nat.{_-_}
 use mathlib.Core.Path.{sym, _∙_}
 use native.Mathlib.Omega.{arith}

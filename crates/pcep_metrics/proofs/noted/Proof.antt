@@ -1,4 +1,4 @@
--- `noted` meets its contract: by its tests.
+-- `pcep_metrics::noted` meets its contract: by its tests.
 use mathlib.Core.Path.{refl}
 use borrow.Author.Tests.{eq-eqb, ne-eqb}
 use borrow.Author.Needs.{needs}

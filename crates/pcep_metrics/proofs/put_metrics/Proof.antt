@@ -1,4 +1,4 @@
--- `put_metrics` meets its contract. The loop's invariant: the METRICs passed are written, field by field, and the others are left (`Putting`).
+-- `pcep_metrics::put_metrics` meets its contract. The loop's invariant: the METRICs passed are written, field by field, and the others are left (`Putting`).
 use Prim.Native.Nat.{ℕ, _-_, _+_, _≤_, _<_}
 use mathlib.Core.Path.{_≡_, sym, _∙_}
 use native.Mathlib.Omega.{arith}

@@ -1,16 +1,16 @@
--- `check_request` meets its contract: a refusal of the checks, or the meaning of the include list as a query.
+-- `request::check_request` meets its contract: a refusal of the checks, or the meaning of the include list as a query.
 use mathlib.Core.Path.{_≡_, refl, sym, ap, _∙_}
-use mathlib.Core.List.{List}
 use Rattle.model.specs.declared.Verdict.{Verdict}
 use Rattle.model.specs.declared.Verdict.the-variants.{Pass}
-use Rattle.model.specs.Sequence.{Stop, good}
+use Rattle.model.specs.Sequence.{good}
 use Rattle.model.specs.Request.{Request, provided, requestVerdict}
 use Rattle.laws.proofs.Turns.{refuse-not-pass}
 use Rattle.laws.proofs.AcceptedRequest.{passed-request}
-use Rattle.sequence.specs.Reading as R
-use Rattle.domain_list.proofs.ReadChecks.{whole-domains, short-areas}
-use Rattle.request.specs.Checked.{requestOf}
-use Rattle.request.proofs.Queries.{sequence-refused, sequence-passed, same-stops, ready-query}
+use Rattle.list_include.specs.Reading as R
+use Rattle.model.specs.Profile.{version1}
+use Rattle.profile_check.proofs.Access.{whole-domains, short-areas}
+use Rattle.request.specs.CheckedRequest.{requestOf}
+use Rattle.request.proofs.Queries.{sequence-refused, sequence-passed, ready-query}
 use borrow.Author.Needs.{needs}
 use Rattle.request.proofs.check_request.Statement.{statement}
 use Rattle.request.proofs.check_request.Tie as tie
@@ -48,7 +48,7 @@ read-list-requires : tie.Need-read-list-requires
 read-list-requires c κs =
     let start = c .before .before .before .before .before .before in
     let p = passed-request (request start) (checked c) in
-    ((whole-domains (start .args .profile .now) (p .profile), short-areas (start .args .profile .now) (p .profile), p .ingress), (p .include-size, p .include-form))
+    ((whole-domains version1 (start .args .profile .now) (p .profile), short-areas version1 (start .args .profile .now) (p .profile), p .ingress), (p .include-size, p .include-form))
 
 returns-2 : tie.Need-returns-2
 returns-2 c =
@@ -59,16 +59,14 @@ returns-2 c =
     let p = checked (c .before .before .before .before) in
     record {
       means =
-          ap (λ (s : List Stop). provided (read .result .verdict) (good s)) (same-stops (request start) st (a .source) (a .destination))
-          ∙ (read .ensures) .means
-          ∙ sym (sequence-passed (request start) p);
+          (read .ensures) .means ∙ sym (sequence-passed (request start) p);
       source-kept = refl;
       destination-kept = refl;
       limits-kept = refl;
       ready =
           λ e.
           ready-query (request start) st (a .source) (a .destination) (passed-request (request start) p) ((read .ensures) .sound)
-          (sym ((read .ensures) .means) ∙ ap (λ (v : Verdict). provided v (good (R.stopsOf st))) e);
+          (sym ((read .ensures) .means) ∙ ap (λ (v : Verdict). provided v (good (R.stateStops st))) e);
     }
 
 pub check-request-spec : {M : Type 1} → statement M

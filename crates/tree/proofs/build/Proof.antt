@@ -1,7 +1,7 @@
--- `build` meets its contract: the numbers that `solve` leaves, with their levels put beside them, give the entries back.
+-- `tree::build` meets its contract: the numbers that `solve` leaves, with their levels put beside them, give the entries back.
 use borrow.Author.Needs.{needs}
 use Rattle.model.specs.Calls.{buildTree}
-use Rattle.request.specs.Checked.{requestOf}
+use Rattle.request.specs.CheckedRequest.{requestOf}
 use Rattle.tree_fields.proofs.Over.{places-within}
 use Rattle.tree.proofs.Entries.{entries-back}
 use Rattle.tree.proofs.build.Statement.{statement}

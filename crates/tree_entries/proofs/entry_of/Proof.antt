@@ -1,11 +1,11 @@
--- `entry_of` meets its contract, by the one test.
+-- `tree_entries::entry_of` meets its contract, by the one test.
 use mathlib.Core.Path.{sym, ap}
 use Prim.Native.Nat.{ℕ}
 use borrow.Author.Needs.{needs}
 use lib.ListN.{getD}
 use Rattle.model.specs.declared.TreeEntry.{TreeEntry}
-use Rattle.laws.proofs.Reach.{Reach}
-use Rattle.reaches.proofs.Codes.{reach-none, reach-some}
+use Rattle.laws.specs.Reach.{Reach}
+use Rattle.tree_reaches.proofs.Codes.{reach-none, reach-some}
 use Rattle.tree_entries.specs.declared.TreeTable.{TreeTable}
 use Rattle.tree_entries.proofs.entry_of.Statement.{statement}
 use Rattle.tree_entries.proofs.entry_of.Tie as tie

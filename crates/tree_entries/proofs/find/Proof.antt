@@ -50,12 +50,12 @@ use Rattle.model.proofs.NodeAddress as N
 use Rattle.model.proofs.NodeAddress.Laws as N′
 use Rattle.model.proofs.TreeEntry as E
 use Rattle.model.proofs.TreeEntry.Laws as E′
-use Rattle.tree_entries.specs.declared.Found.{Found}
+use Rattle.tree_entries.specs.declared.EntryPlace.{EntryPlace}
 use Rattle.tree_entries.specs.Entries.{isEntry, findFrom, foundBelow}
 use Rattle.tree_entries.proofs.Search.{Passed, passed-one, found-here, passed-all}
 use Rattle.tree_entries.proofs.Steps.{Of, calls-plain, counts}
-use Rattle.tree_entries.proofs.Found as F
-use Rattle.tree_entries.proofs.Found.Laws as F′
+use Rattle.tree_entries.proofs.EntryPlace as F
+use Rattle.tree_entries.proofs.EntryPlace.Laws as F′
 use Rattle.tree_entries.proofs.is_entry as is-entry
 use Rattle.tree_entries.proofs.is_entry.Symbol as is-entry-def
 use Rattle.tree_entries.proofs.is_entry.Symbol.{name as #is-entry}
@@ -108,7 +108,7 @@ module _ {M : Type 1} (𝓤 : URA M) (H : Heap 𝓤) (A : Atoms 𝓤) (W : Given
   abbrev Post : Val → SProp 𝓤
   Post = walkOf 𝓤 H A find.ended stayed (find.clauses 𝓤 H A mem run) .post bound
 
-  exits : (r : Found) (w : Val) → Is F.the-row r (w ∷ []) → r ≡ findFrom lv (ad .0) 0 ys → ent 𝓤 (⋆ 𝓤 H A (‵ (flft κ q) ∷ [])) (Post w)
+  exits : (r : EntryPlace) (w : Val) → Is F.the-row r (w ∷ []) → r ≡ findFrom lv (ad .0) 0 ys → ent 𝓤 (⋆ 𝓤 H A (‵ (flft κ q) ∷ [])) (Post w)
   exits r w is e =
       qed W (‵ (flft κ q) ∷ []) ∵
       suffices ! _ (ends-at 𝓤 H A find.ended stayed (find.clauses 𝓤 H A mem run) W bound w r (tt, (tt, (tt, tt))) (tt, (tt, (tt, tt)))) $ says ! e $

@@ -1,18 +1,17 @@
--- `solve` meets its contract: what the checks refuse is refused, and what they accept is the query's search.
-use mathlib.Core.Path.{_≡_, sym, subst, _∙_}
-use mathlib.Core.List.{List}
+-- `tree_fields::solve` meets its contract: what the checks refuse is refused, and what they accept is the query's search.
+use mathlib.Core.Path.{sym, subst}
 use borrow.Author.Needs.{needs}
 use Rattle.model.specs.declared.TreeEntry.{TreeEntry}
 use Rattle.model.specs.Profile.{version1}
 use Rattle.model.specs.Request.{Request}
 use Rattle.model.specs.Answers.{refused4}
-use Rattle.model.specs.Calls.{Outcome, nothing, buildTree}
-use Rattle.request.specs.Query.{stopsOf, searchFor, inRound, roundFor}
-use Rattle.request.specs.Checked.{requestOf}
+use Rattle.model.specs.Calls.{Outcome, nothing}
+use Rattle.request.specs.Query.{queryStops, searchFor, inRound, roundFor}
+use Rattle.request.specs.CheckedRequest.{requestOf}
 use Rattle.request.proofs.Requests.{refused-request, accepted-request, round-request, search-request}
-use Rattle.tree_fields.specs.declared.Solved.{Solved}
-use Rattle.tree_fields.specs.Solved.{SolvedBy}
-use Rattle.tree_fields.proofs.Outcomes.{refusal, refused-outcome, tree-refused, tree-accepted}
+use Rattle.tree_fields.specs.declared.TreeResult.{TreeResult}
+use Rattle.tree_fields.specs.TreeResult.{TreeResultIs}
+use Rattle.tree_fields.proofs.Outcomes.{refused-outcome, tree-refused, tree-accepted}
 use Rattle.tree_fields.proofs.solve.Statement.{statement}
 use Rattle.tree_fields.proofs.solve.Tie as tie
 
@@ -35,8 +34,8 @@ returns c =
     let is = c .before .before .before .before .check-request .ensures in
     let r = c .before .before .verdict .given .0 .0 in
     let why = refused-request (a .profile .now) (a .ingress) (a .source) (a .destination) (a .include .now) (a .exclude .now) (a .limits) (c .before .before .before .before .check-request .result) is r (c .before .before .verdict .given .1) in
-    subst (λ (o : Outcome TreeEntry). SolvedBy o (a .room) (a .addresses .now) (a .reaches .now) (a .starts .now) (c .refused .result)) (sym (tree-refused (request start) (a .room) r why))
-    (subst (λ (x : Solved). SolvedBy (nothing (refused4 r)) (a .room) (a .addresses .now) (a .reaches .now) (a .starts .now) x) (sym (c .refused .ensures))
+    subst (λ (o : Outcome TreeEntry). TreeResultIs o (a .room) (a .addresses .now) (a .reaches .now) (a .starts .now) (c .refused .result)) (sym (tree-refused (request start) (a .room) r why))
+    (subst (λ (x : TreeResult). TreeResultIs (nothing (refused4 r)) (a .room) (a .addresses .now) (a .reaches .now) (a .starts .now) x) (sym (c .refused .ensures))
     (refused-outcome r (a .room) (a .addresses .now) (a .reaches .now) (a .starts .now)))
 
 enum-told : tie.Need-enum-told
@@ -55,9 +54,9 @@ returns-2 c =
     let is = c .before .before .before .before .before .before .before .check-request .ensures in
     let passes = c .before .before .before .before .before .enum-told .given .1 in
     let l = c .solve-query .last .1 .1 .1 .1 in
-    subst (λ (o : Outcome TreeEntry). SolvedBy o (a .room) (l .0) (l .1 .0) (l .1 .1 .0) (c .solve-query .result))
+    subst (λ (o : Outcome TreeEntry). TreeResultIs o (a .room) (l .0) (l .1 .0) (l .1 .1 .0) (c .solve-query .result))
     (sym
-    (tree-accepted (request start) (a .room) (stopsOf (r .query)) (roundFor version1 (a .profile .now) (a .exclude .now) (r .query))
+    (tree-accepted (request start) (a .room) (queryStops (r .query)) (roundFor version1 (a .profile .now) (a .exclude .now) (r .query))
     (searchFor version1 (a .profile .now) (a .exclude .now) (inRound (roundFor version1 (a .profile .now) (a .exclude .now) (r .query)) (r .query)))
     (accepted-request (a .profile .now) (a .ingress) (a .source) (a .destination) (a .include .now) (a .exclude .now) (a .limits) r is passes)
     (round-request (a .profile .now) (a .ingress) (a .source) (a .destination) (a .include .now) (a .exclude .now) (a .limits) r is)

@@ -1,14 +1,14 @@
--- `solve_query` meets its contract: the tree is worked out for the first version's layout in the round that applies, and its entries are those of `tree`.
+-- `tree_fields::solve_query` meets its contract: the tree is worked out for the first version's layout in the round that applies, and its entries are those of `tree`.
 use mathlib.Core.Path.{refl, sym, subst}
 use Prim.Native.Nat.{_≤_}
 use native.Mathlib.Omega.{arith}
 use borrow.Author.Needs.{needs}
 use Rattle.model.specs.Profile.{Layout, version1, costLimit}
-use Rattle.records.specs.Layout.{Sound}
+use Rattle.profile_records.specs.Layout.{SoundLayout}
 use Rattle.request.specs.Query.{Ready}
-use Rattle.rounds.specs.Settled.{SettledIs}
-use Rattle.tree_fields.specs.declared.Solved.{Solved}
-use Rattle.tree_fields.specs.Solved.{treeFor, SolvedBy}
+use Rattle.tree_rounds.specs.ChosenRound.{ChosenRoundIs}
+use Rattle.tree_fields.specs.declared.TreeResult.{TreeResult}
+use Rattle.tree_fields.specs.TreeResult.{treeFor, TreeResultIs}
 use Rattle.tree_fields.proofs.Outcomes.{places-few, count-small, tally-small, too-small, enough}
 use Rattle.tree_fields.proofs.solve_query.Statement.{statement}
 use Rattle.tree_fields.proofs.solve_query.Tie as tie
@@ -20,7 +20,7 @@ settle-requires : tie.Need-settle-requires
 settle-requires c κs =
     let start = c .before .before .before .before .before .before .before .before in
     let a = start .args in (
-      subst (λ (L : Layout). Sound L × (L .mostCost ≤ costLimit) × Ready L (a .profile .now) (a .exclude .now) (a .q)) (sym (c .before .before .before .before .before .first-version .ensures))
+      subst (λ (L : Layout). SoundLayout L × (L .mostCost ≤ costLimit) × Ready L (a .profile .now) (a .exclude .now) (a .q)) (sym (c .before .before .before .before .before .first-version .ensures))
           (record { fields = omega arith; cost = omega arith; small = omega arith }, omega arith, start .pre .0),
       (record { for-addresses = start .pre .1 .0; for-starts = start .pre .1 .2; for-firsts = refl; for-lasts = refl }, start .pre .1 .1),
     )
@@ -28,13 +28,13 @@ settle-requires c κs =
 -- what was settled, for the first version
 settled
     : (c : tie.After-settle)
-    → SettledIs version1 (c .before .before .before .before .before .before .before .before .before .args .profile .now) (c .before .before .before .before .before .before .before .before .before .args .exclude .now) (c .before .before .before .before .before .before .before .before .before .args .q)
+    → ChosenRoundIs version1 (c .before .before .before .before .before .before .before .before .before .args .profile .now) (c .before .before .before .before .before .before .before .before .before .args .exclude .now) (c .before .before .before .before .before .before .before .before .before .args .q)
     (c .settle .last .1 .1 .1 .1 .0) (c .settle .last .1 .1 .1 .1 .1 .0) (c .settle .last .1 .1 .1 .1 .1 .1 .0) (c .settle .last .1 .1 .1 .1 .1 .1 .1 .0) (c .settle .last .1 .1 .1 .1 .1 .1 .1 .1 .0)
     (c .settle .result)
 settled c =
     let a = c .before .before .before .before .before .before .before .before .before .args in
     let l = c .settle .last .1 .1 .1 .1 in
-    subst (λ (L : Layout). SettledIs L (a .profile .now) (a .exclude .now) (a .q) (l .0) (l .1 .0) (l .1 .1 .0) (l .1 .1 .1 .0) (l .1 .1 .1 .1 .0) (c .settle .result))
+    subst (λ (L : Layout). ChosenRoundIs L (a .profile .now) (a .exclude .now) (a .q) (l .0) (l .1 .0) (l .1 .1 .0) (l .1 .1 .1 .0) (l .1 .1 .1 .1 .0) (c .settle .result))
     (c .before .before .before .before .before .before .first-version .ensures)
     (c .settle .ensures)
 
@@ -60,7 +60,7 @@ returns c =
     let start = c .before .before .before .before .before .before .before .before .before .before .before .before .before in
     let a = start .args in
     let l = c .before .before .before .before .settle .last .1 .1 .1 .1 in
-    subst (λ (r : Solved). SolvedBy (treeFor (a .profile .now) (a .exclude .now) (a .q) (a .room)) (a .room) (l .0) (l .1 .0) (l .1 .1 .0) r) (sym (c .refused .ensures))
+    subst (λ (r : TreeResult). TreeResultIs (treeFor (a .profile .now) (a .exclude .now) (a .q) (a .room)) (a .room) (l .0) (l .1 .0) (l .1 .1 .0) r) (sym (c .refused .ensures))
     (too-small (a .profile .now) (a .exclude .now) (a .q) (a .room) (start .pre .0) (l .0) (l .1 .0) (l .1 .1 .0) (l .1 .1 .1 .0) (l .1 .1 .1 .1 .0) (c .before .before .before .before .settle .result) (settled (c .before .before .before .before)) (c .before .if1 .taken))
 
 cast-t27 : tie.Need-cast-t27

@@ -1,14 +1,14 @@
--- `tree_numbers` meets its contract: what `solve` leaves is put into the buffers, each of which has the room.
-use mathlib.Core.Path.{_≡_, subst, ap₂, _∙_}
-use mathlib.Core.List.{List}
-use Prim.Native.Nat.{ℕ, min, _≤_}
+-- `tree_fields::tree_numbers` meets its contract: what `solve` leaves is put into the buffers, each of which has the room.
+use mathlib.Core.Path.{subst, ap₂, _∙_}
+use Prim.Native.Nat.{ℕ, min}
 use native.Mathlib.Omega.{arith}
 use borrow.Author.Needs.{needs}
 use lib.ListN.{length}
 use Rattle.model.specs.Request.{Request}
 use Rattle.model.specs.Calls.{buildTree}
-use Rattle.request.specs.Checked.{requestOf}
-use Rattle.tree_fields.specs.Solved.{SolvedBy, least4}
+use Rattle.request.specs.CheckedRequest.{requestOf}
+use Rattle.buffers.specs.Capacity.{least4}
+use Rattle.tree_fields.specs.TreeResult.{TreeResultIs}
 use Rattle.tree_fields.proofs.Over.{places-within, levels-over, addresses-over, marks-over, costs-over}
 use Rattle.tree_fields.proofs.tree_numbers.Statement.{statement}
 use Rattle.tree_fields.proofs.tree_numbers.Tie as tie
@@ -22,11 +22,11 @@ room c = least4 (c .args .level .now) (c .args .address .now) (c .args .reachabl
 -- what is solved, for the capacity of the four buffers
 solved
     : (c : tie.After-solve)
-    → SolvedBy (buildTree (request (c .before .before .before .before .before .before .before .before .before .before .before .before .before .before)) (room (c .before .before .before .before .before .before .before .before .before .before .before .before .before .before))) (room (c .before .before .before .before .before .before .before .before .before .before .before .before .before .before)) (c .solve .last .1 .1 .1 .1 .1 .1 .1 .1 .0) (c .solve .last .1 .1 .1 .1 .1 .1 .1 .1 .1 .0) (c .solve .last .1 .1 .1 .1 .1 .1 .1 .1 .1 .1 .0) (c .solve .result)
+    → TreeResultIs (buildTree (request (c .before .before .before .before .before .before .before .before .before .before .before .before .before .before)) (room (c .before .before .before .before .before .before .before .before .before .before .before .before .before .before))) (room (c .before .before .before .before .before .before .before .before .before .before .before .before .before .before)) (c .solve .last .1 .1 .1 .1 .1 .1 .1 .1 .0) (c .solve .last .1 .1 .1 .1 .1 .1 .1 .1 .1 .0) (c .solve .last .1 .1 .1 .1 .1 .1 .1 .1 .1 .1 .0) (c .solve .result)
 solved c =
     let start = c .before .before .before .before .before .before .before .before .before .before .before .before .before .before in
     let l = c .solve .last .1 .1 .1 .1 .1 .1 .1 .1 in
-    subst (λ (n : ℕ). SolvedBy (buildTree (request start) n) n (l .0) (l .1 .0) (l .1 .1 .0) (c .solve .result))
+    subst (λ (n : ℕ). TreeResultIs (buildTree (request start) n) n (l .0) (l .1 .0) (l .1 .1 .0) (c .solve .result))
     (c .before .before .before .before .lesser3 .ensures ∙ ap₂ min (c .before .before .before .before .before .before .lesser .ensures) (c .before .before .before .before .before .lesser2 .ensures))
     (c .solve .ensures)
 

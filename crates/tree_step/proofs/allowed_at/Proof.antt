@@ -1,7 +1,7 @@
 -- `tree_step::allowed_at` meets its contract: each return is one of the three tests of an entry (`Entries`).
 -- Assumes nothing.
-use mathlib.Core.Path.{_≡_, sym, ap, _∙_}
-use mathlib.Core.Bool.{Bool, not}
+use mathlib.Core.Path.{sym, ap, _∙_}
+use mathlib.Core.Bool.{not}
 use borrow.Author.Needs.{needs}
 use borrow.Author.Tests.{not-true, not-false}
 use Rattle.tree_step.proofs.Entries.{domain-excluded, pin-broken, node-decides}

@@ -1,20 +1,18 @@
 -- `tree_step::entry_reach` meets its contract: nothing where the entry isn't allowed, else the best of the hop records that leave it.
 -- Assumes nothing.
-use mathlib.Core.Path.{_≡_, refl, sym, ap, _∙_}
-use mathlib.Core.Bool.{Bool, true, false}
-use mathlib.Core.List.{List}
-use native.Mathlib.Omega.{arith}
+use mathlib.Core.Path.{refl, sym, ap, _∙_}
+use mathlib.Core.Bool.{Bool}
 use borrow.Author.Needs.{needs}
 use borrow.Author.Tests.{not-true, not-false}
-use Rattle.reaches.proofs.Codes.{reach-none}
+use Rattle.tree_reaches.proofs.Codes.{reach-none}
 use lib.Seq.{slice}
 use Rattle.model.specs.declared.Hop.{Hop}
 use Rattle.model.specs.Lists.{keep}
 use Rattle.model.specs.Profile.{hops}
-use Rattle.laws.proofs.Reach.{Reach, unreached, reachIf, bestFrom}
-use Rattle.records.specs.Layout.{layoutOf}
-use Rattle.hop_range.specs.Ranges.{leavesNode}
-use Rattle.reaches.specs.Reaches.{wayOn}
+use Rattle.laws.specs.Reach.{Reach, unreached, reachIf, bestFrom}
+use Rattle.profile_records.specs.Layout.{layoutOf}
+use Rattle.profile_hop_range.specs.Ranges.{leavesNode}
+use Rattle.tree_reaches.specs.Reaches.{wayOn}
 use Rattle.tree_step.proofs.entry_reach.Statement.{statement}
 use Rattle.tree_step.proofs.entry_reach.Tie as tie
 

@@ -9,15 +9,13 @@ use borrow.Author.Needs.{needs}
 use lib.ListN.{length, getD, set, length-map, List·getD-map}
 use lib.Seq.{slice, paste, paste-zero, paste-suc, length-paste, length-slice}
 use Rattle.laws.proofs.Ranges.{getD-slice}
-use Rattle.records.specs.Layout.{layoutOf}
-use Rattle.reaches.specs.Reaches.{codeOf, NextPlace}
+use Rattle.profile_records.specs.Layout.{layoutOf}
+use Rattle.tree_reaches.specs.Reaches.{codeOf, NextPlace}
 use Rattle.tree_step.specs.Step.{entryCode, levelCodes}
-use Rattle.reaches.proofs.Codes.{code-reach}
+use Rattle.tree_reaches.proofs.Codes.{code-reach}
 use Rattle.tree_step.proofs.Entries.{after-paste, next-kept}
 use Rattle.tree_step.proofs.fill_level.Statement.{statement}
 use Rattle.tree_step.proofs.fill_level.Tie as tie
-use Rattle.tree_step.proofs.fill_level.Reads as reads
-use Rattle.tree_step.proofs.fill_level.Lts as lts
 
 abbrev Inv-loop : tie.InvT-loop
 Inv-loop s layout exclude leg asked addresses reaches₀ start count j₀ reaches j =

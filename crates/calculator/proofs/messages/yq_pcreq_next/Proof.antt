@@ -1,4 +1,4 @@
--- `yq_pcreq_next` meets its contract: what the call answers is told.
+-- `calculator::messages::yq_pcreq_next` meets its contract: what the call answers is told.
 use Rattle.calculator.proofs.Exported.{path-told}
 use borrow.Author.Needs.{needs}
 use Rattle.calculator.proofs.messages.yq_pcreq_next.Statement.{statement}

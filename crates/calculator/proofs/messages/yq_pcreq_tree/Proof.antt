@@ -1,4 +1,4 @@
--- `yq_pcreq_tree` meets its contract: what the call answers is told.
+-- `calculator::messages::yq_pcreq_tree` meets its contract: what the call answers is told.
 use Rattle.calculator.proofs.Exported.{tree-export}
 use borrow.Author.Needs.{needs}
 use Rattle.calculator.proofs.messages.yq_pcreq_tree.Statement.{statement}

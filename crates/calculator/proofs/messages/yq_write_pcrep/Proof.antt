@@ -1,4 +1,4 @@
--- `yq_write_pcrep` meets its contract: what the call answers is told.
+-- `calculator::messages::yq_write_pcrep` meets its contract: what the call answers is told.
 use Rattle.model.specs.Answers.{numbersOfWrite}
 use Rattle.calculator.proofs.Exported.{write-export}
 use borrow.Author.Needs.{needs}

@@ -1,4 +1,4 @@
--- `writer::all_or_none` meets its contract: by the test.
+-- `list_writer::writer::all_or_none` meets its contract: by the test.
 use borrow.Author.Tests.{le-leb, lt-leb}
 use Rattle.list_writer.proofs.writer.all_or_none.Statement.{statement}
 use Rattle.list_writer.proofs.writer.all_or_none.Tie as tie

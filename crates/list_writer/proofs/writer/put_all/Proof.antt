@@ -1,4 +1,4 @@
--- `writer::put_all` meets its contract. The loop's invariant: what is put so far and what is left from stop i on are the written list; a stop takes at most 36 bytes.
+-- `list_writer::writer::put_all` meets its contract. The loop's invariant: what is put so far and what is left from stop i on are the written list; a stop takes at most 36 bytes.
 -- The measure is what is left of the sequence.
 use Prim.Native.Nat.{ℕ, _≤_, _<_, _+_, _*_, _-_}
 use native.Mathlib.Numerals.{add-one}
@@ -10,7 +10,7 @@ use denote.Ref.{now}
 use lib.ListN.{length, getD, take}
 use Rattle.model.specs.Profile.{domains}
 use Rattle.model.specs.WrittenList.{written, stops}
-use Rattle.list_parts.specs.Placed.{AreaRight}
+use Rattle.list_writer.specs.Writing.{AreaRight}
 use Rattle.list_writer.proofs.Steps.{left, sequence, inside, area-right, stop-length, stop-room, stop-reach, turn, nothing-left}
 use Rattle.list_writer.proofs.writer.put_all.Statement.{statement}
 use Rattle.list_writer.proofs.writer.put_all.Tie as tie

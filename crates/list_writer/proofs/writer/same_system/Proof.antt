@@ -1,4 +1,4 @@
--- `writer::same_system` meets its contract: by whether the domain is the first.
+-- `list_writer::writer::same_system` meets its contract: by whether the domain is the first.
 use Prim.Native.Nat.{ℕ, zero, suc}
 use mathlib.Core.Path.{_≡_, refl}
 use lib.Dec.{eqb}

@@ -1,4 +1,4 @@
--- `writer::write_accepted` meets its contract: 35 by `unwritable`, then the whole list is put into a local buffer, and all of it or nothing is copied.
+-- `list_writer::writer::write_accepted` meets its contract: 35 by `unwritable`, then the whole list is put into a local buffer, and all of it or nothing is copied.
 use mathlib.Core.Path.{refl, sym, _∙_}
 use native.Mathlib.Omega.{arith}
 use denote.Ref.{now}

@@ -1,4 +1,4 @@
--- `writer::write_list` meets its contract: the profile's refusal is the answer, and an accepted profile goes on to `write_accepted`.
+-- `list_writer::writer::write_list` meets its contract: the profile's refusal is the answer, and an accepted profile goes on to `write_accepted`.
 use borrow.Author.Needs.{needs}
 use mathlib.Core.Path.{sym, _∙_}
 use denote.Ref.{now}

@@ -1,4 +1,4 @@
--- `numbers::five_of` meets its contract: an equation for each case of the answer.
+-- `path_answers::numbers::five_of` meets its contract: an equation for each case of the answer.
 use mathlib.Core.Path.{sym, ap, _∙_}
 use mathlib.Core.List.{List, [], _∷_}
 use Prim.Native.Nat.{ℕ}

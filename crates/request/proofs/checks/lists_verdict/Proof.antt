@@ -1,4 +1,4 @@
--- `checks::lists_verdict` meets its contract: the tests are those of `listsVerdict`, in its order.
+-- `request::checks::lists_verdict` meets its contract: the tests are those of `listsVerdict`, in its order.
 use mathlib.Core.Path.{sym, _∙_}
 use borrow.Author.Tests.{lt-ltb, le-ltb}
 use Rattle.request.proofs.Verdicts.{include-long, exclude-long, include-refused, exclude-left}

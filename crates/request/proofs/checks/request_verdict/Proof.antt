@@ -1,7 +1,7 @@
--- `checks::request_verdict` meets its contract: the verdicts of the parts, in the order of `requestVerdict`.
+-- `request::checks::request_verdict` meets its contract: the verdicts of the parts, in the order of `requestVerdict`.
 use mathlib.Core.Path.{_≡_, sym, _∙_}
 use Rattle.model.specs.declared.Verdict.the-variants.{Pass}
-use Rattle.request.specs.Checked.{startVerdict}
+use Rattle.request.specs.CheckedRequest.{startVerdict}
 use Rattle.request.proofs.Verdicts.{start-refused, limits-refused, lists-left}
 use borrow.Author.Needs.{needs}
 use Rattle.request.proofs.checks.request_verdict.Statement.{statement}

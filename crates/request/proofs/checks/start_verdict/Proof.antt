@@ -1,4 +1,4 @@
--- `checks::start_verdict` meets its contract: the verdict on the profile, then the test of the ingress index.
+-- `request::checks::start_verdict` meets its contract: the verdict on the profile, then the test of the ingress index.
 use mathlib.Core.Path.{_≡_, sym, ap, subst, _∙_}
 use mathlib.Core.Bool.{Bool}
 use Prim.Native.Nat.{ℕ, _≤_, _<_}
@@ -8,7 +8,7 @@ use Rattle.model.specs.Verdict.{refuseIf}
 use Rattle.model.specs.Profile.{version1, profileVerdict}
 use Rattle.model.specs.Request.{ingressVerdict}
 use Rattle.laws.proofs.Turns.{refused-first, passed-first}
-use Rattle.domain_list.proofs.ReadChecks.{whole-header}
+use Rattle.profile_check.proofs.Access.{file-length}
 use borrow.Author.Needs.{needs}
 use Rattle.request.proofs.checks.start_verdict.Statement.{statement}
 use Rattle.request.proofs.checks.start_verdict.Tie as tie
@@ -32,7 +32,7 @@ enum-told : tie.Need-enum-told
 enum-told c = search needs
 
 domain-count-requires : tie.Need-domain-count-requires
-domain-count-requires c κs = whole-header (c .before .before .before .before .args .profile .now) (taken c)
+domain-count-requires c κs = file-length version1 (c .before .before .before .before .args .profile .now) (taken c) .0
 
 refuse-requires : tie.Need-refuse-requires
 refuse-requires c κs = search needs

@@ -1,4 +1,4 @@
--- `floats::float_of` meets its contract: bits below 7F800000 are those of a float, and so is 7F800000 itself.
+-- `request::floats::float_of` meets its contract: bits below 7F800000 are those of a float, and so is 7F800000 itself.
 use Rattle.laws.proofs.BoundExact.{from-bits-defined}
 use Rattle.laws.proofs.Bits.{bits-below, bits-above}
 use lib.Ieee.{nanBits}

@@ -1,4 +1,4 @@
--- `floats::in_range` meets its contract, by the range as a program tests it: first `x != x`, then the bits.
+-- `request::floats::in_range` meets its contract, by the range as a program tests it: first `x != x`, then the bits.
 use mathlib.Core.Path.{sym}
 use Rattle.laws.proofs.BoundExact.{nan-out-of-range, in-range-by-bits, to-bits-defined}
 use Rattle.request.proofs.floats.in_range.Statement.{statement}

@@ -1,4 +1,4 @@
--- `floats::limits_verdict` meets its contract: the tests are those of `limitsVerdict`, in its order.
+-- `request::floats::limits_verdict` meets its contract: the tests are those of `limitsVerdict`, in its order.
 use mathlib.Core.Path.{_≡_, refl, sym, ap, _∙_}
 use mathlib.Core.Bool.{false, not}
 use Rattle.model.specs.Floats.{inRange}

@@ -1,4 +1,4 @@
--- `limits::limits_of` meets its contract: each float is that of its bits.
+-- `request::limits::limits_of` meets its contract: each float is that of its bits.
 use borrow.Author.Needs.{needs}
 use Rattle.request.proofs.limits.limits_of.Statement.{statement}
 use Rattle.request.proofs.limits.limits_of.Tie as tie

@@ -1,4 +1,0 @@
-pub mod Copies
-pub mod SequenceCopies
-pub mod ReadChecks
-pub mod ReadOutcomes

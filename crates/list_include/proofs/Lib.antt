@@ -1,0 +1,3 @@
+mod Includes
+pub mod Hits
+pub mod States

@@ -1,0 +1,2 @@
+pub mod NamedDomain
+pub mod Reading

@@ -1,0 +1,3 @@
+pub mod SequenceCopies
+pub mod ReadChecks
+pub mod ReadOutcomes

@@ -1,0 +1,114 @@
+-- The outcomes of first and next for a request as it was checked: refused, 33, 34, or the first of the shortest paths above the given list. From what the checks say.
+use mathlib.Core.Path.{_≡_, sym, ap, _∙_}
+use mathlib.Core.Bool.{Bool, not}
+use mathlib.Core.List.{List, []}
+use Prim.Native.Nat.{ℕ, suc, _≤_, _<_}
+use native.Mathlib.Omega.{arith}
+use lib.Dec.{eqb}
+use lib.ListN.{length}
+use borrow.Author.Tests.{eq-eqb, ne-eqb, lt-ltb, le-ltb}
+use Rattle.model.specs.declared.DomainIndex.{DomainIndex}
+use Rattle.model.specs.declared.NodeAddress.{NodeAddress}
+use Rattle.model.specs.declared.Limits.{Limits}
+use Rattle.model.specs.declared.Refusal.{Refusal}
+use Rattle.model.specs.declared.Round.{Round}
+use Rattle.model.specs.declared.Verdict.the-variants.{Pass, Refuse}
+use Rattle.model.specs.Lists.{below}
+use Rattle.model.specs.Verdict.{refuseIf, _andThen_}
+use Rattle.model.specs.Profile.{version1}
+use Rattle.model.specs.Sequence.{Stop, Reading}
+use Rattle.model.specs.Request.{Request, Search}
+use Rattle.model.specs.Path.{legs, keepsBound, Route, paths, admissible, shortestPaths}
+use Rattle.model.specs.Answers.{refused4}
+use Rattle.model.specs.Calls.{nothing, firstOf, answerPath, roomVerdict, pathLength, firstInto, first, greaterThan, nextInto, next}
+use Rattle.laws.proofs.Lists.{keep-all, keep-mem}
+use Rattle.laws.proofs.Suffixes.{suffix-begins}
+use Rattle.laws.proofs.Cheapest.{cheapest-mem}
+use Rattle.request.specs.declared.CheckedRequest.{CheckedRequest}
+use Rattle.request.specs.Query.{queryStops, searchFor, inRound, roundFor}
+use Rattle.request.specs.CheckedRequest.{requestOf, RequestIs}
+use Rattle.request.proofs.Requests.{refused-request, accepted-request, round-request, search-request}
+use Rattle.tree_vspt.proofs.Sequences.{stops-long}
+
+-- above no list at all are all paths
+pub all-above-nothing : (S : Search) → greaterThan [] (shortestPaths S) ≡ shortestPaths S
+unfolding greaterThan shortestPaths admissible paths below
+all-above-nothing S =
+    keep-all (λ (p : Route). below [] (p .addresses)) (shortestPaths S)
+    (λ r m.
+    let k = (cheapest-mem (admissible S) m) .0 in
+    let n = (keep-mem (λ (p : Route). keepsBound (S .limits) (p .total)) (paths S) k) .0 in
+    ap (below []) ((suffix-begins S (legs (S .sequence)) 0 (S .source) r n) .1))
+
+module _ (P : List ℕ) (ingress : DomainIndex) (source destination : NodeAddress) (I E : List ℕ) (limits : Limits) (r : CheckedRequest) (is : RequestIs P ingress source destination I E limits r) where
+  abbrev req : Request
+  req = requestOf P (ingress .0) (source .0) (destination .0) I E limits
+
+  abbrev x : Round
+  x = roundFor version1 P E (r .query)
+
+  abbrev S : Search
+  S = searchFor version1 P E (inRound x (r .query))
+
+  needed : pathLength (queryStops (r .query)) ≡ suc (r .query .count)
+  needed = ap suc (stops-long (r .query))
+
+  module _ (room : ℕ) where
+    pub first-refused : (why : Refusal) → r .verdict ≡ Refuse why → first req room ≡ nothing (refused4 why)
+    unfolding first
+    first-refused why e = ap (λ (y : Reading (List Stop)). firstInto req y room) (refused-request P ingress source destination I E limits r is why e)
+
+    first-accepted : r .verdict ≡ Pass → first req room ≡ answerPath (roomVerdict (suc (r .query .count)) room) x 1 (shortestPaths S)
+    unfolding first
+    first-accepted e =
+        ap (λ (y : Reading (List Stop)). firstInto req y room) (accepted-request P ingress source destination I E limits r is e)
+        ∙ (λ j. answerPath (roomVerdict (needed j) room) (round-request P ingress source destination I E limits r is j) 1 (shortestPaths (search-request P ingress source destination I E limits r is j)))
+
+    pub first-small : r .verdict ≡ Pass → room ≤ r .query .count → first req room ≡ nothing (refused4 (record { number = 34; place = 0 }))
+    first-small e h =
+        first-accepted e ∙ ap (λ (b : Bool). answerPath (refuseIf b 34 0) x 1 (shortestPaths S)) (lt-ltb room (suc (r .query .count)) (omega arith))
+
+    pub first-searched : r .verdict ≡ Pass → suc (r .query .count) ≤ room → first req room ≡ firstOf x 1 (greaterThan [] (shortestPaths S))
+    first-searched e h =
+        first-accepted e
+        ∙ ap (λ (b : Bool). answerPath (refuseIf b 34 0) x 1 (shortestPaths S)) (le-ltb room (suc (r .query .count)) (omega arith))
+        ∙ ap (firstOf x 1) (sym (all-above-nothing S))
+
+    module _ (given : List ℕ) where
+      pub next-refused : (why : Refusal) → r .verdict ≡ Refuse why → next req given room ≡ nothing (refused4 why)
+      unfolding next
+      next-refused why e = ap (λ (y : Reading (List Stop)). nextInto req y given room) (refused-request P ingress source destination I E limits r is why e)
+
+      next-accepted
+          : r .verdict ≡ Pass
+          → next req given room
+          ≡ answerPath (refuseIf (not (eqb (length given) (suc (r .query .count)))) 33 0 andThen roomVerdict (suc (r .query .count)) room) x 2 (greaterThan given (shortestPaths S))
+      unfolding next
+      next-accepted e =
+          ap (λ (y : Reading (List Stop)). nextInto req y given room) (accepted-request P ingress source destination I E limits r is e)
+          ∙ (λ j.
+          answerPath (refuseIf (not (eqb (length given) (needed j))) 33 0 andThen roomVerdict (needed j) room) (round-request P ingress source destination I E limits r is j) 2
+          (greaterThan given (shortestPaths (search-request P ingress source destination I E limits r is j))))
+
+      pub next-unfit
+          : r .verdict ≡ Pass → (length given ≡ suc (r .query .count) → ⊥) → next req given room ≡ nothing (refused4 (record { number = 33; place = 0 }))
+      next-unfit e h =
+          next-accepted e
+          ∙ ap (λ (b : Bool). answerPath (refuseIf (not b) 33 0 andThen roomVerdict (suc (r .query .count)) room) x 2 (greaterThan given (shortestPaths S)))
+          (ne-eqb (length given) (suc (r .query .count)) h)
+
+      next-fit : r .verdict ≡ Pass → length given ≡ suc (r .query .count) → next req given room ≡ answerPath (roomVerdict (suc (r .query .count)) room) x 2 (greaterThan given (shortestPaths S))
+      next-fit e h =
+          next-accepted e
+          ∙ ap (λ (b : Bool). answerPath (refuseIf (not b) 33 0 andThen roomVerdict (suc (r .query .count)) room) x 2 (greaterThan given (shortestPaths S)))
+          (eq-eqb (length given) (suc (r .query .count)) h)
+
+      pub next-small
+          : r .verdict ≡ Pass → length given ≡ suc (r .query .count) → room < suc (r .query .count) → next req given room ≡ nothing (refused4 (record { number = 34; place = 0 }))
+      next-small e h k =
+          next-fit e h ∙ ap (λ (b : Bool). answerPath (refuseIf b 34 0) x 2 (greaterThan given (shortestPaths S))) (lt-ltb room (suc (r .query .count)) k)
+
+      pub next-searched
+          : r .verdict ≡ Pass → length given ≡ suc (r .query .count) → suc (r .query .count) ≤ room → next req given room ≡ firstOf x 2 (greaterThan given (shortestPaths S))
+      next-searched e h k =
+          next-fit e h ∙ ap (λ (b : Bool). answerPath (refuseIf b 34 0) x 2 (greaterThan given (shortestPaths S))) (le-ltb room (suc (r .query .count)) k)

@@ -1,0 +1,87 @@
+// The public calls first and next: the shortest paths of a request, one at a time, into a lent list of addresses.
+use crate::routes::first_route;
+use crate::routes::next_route;
+use buffers::put_first;
+use model::DomainIndex;
+use model::Limits;
+use model::NodeAddress;
+use model::PathAnswer;
+use path_answers::PathReply;
+ghost use mathlib.Core.Path.{_≡_};
+ghost use Prim.Native.Nat.{_≤_};
+ghost use lib.ListN.{length, take};
+ghost use Rattle.model.specs.Lists.{over};
+ghost use Rattle.model.specs.Answers.{numbersOfPath};
+ghost use Rattle.model.specs.Calls as Calls;
+ghost use Rattle.request.specs.CheckedRequest.{requestOf};
+ghost use Rattle.path_answers.specs.Numbers.{Real};
+
+pub mod routes;
+
+// The answer of a reply, with its path over the start of the lent list.
+fn hand_out(reply: PathReply, path: &mut [u32]) -> PathAnswer
+    requires { ⌜ (reply .count ≤ length (reply .path)) × (reply .count ≤ length (now path)) ⌝ }
+    ensures { λ r. ⌜ (r ≡ reply .answer) × (now (path .exit) ≡ over (take (reply .count) (reply .path)) (now (path .entry))) ⌝ }
+{
+    let addresses = reply.path;
+    put_first(&addresses, reply.count, path);
+    reply.answer
+}
+
+// The first of the shortest paths, or why there is none.
+pub fn first(
+    profile: &[u8],
+    ingress: DomainIndex,
+    source: NodeAddress,
+    destination: NodeAddress,
+    include: &[u8],
+    exclude: &[u8],
+    limits: Limits,
+    path: &mut [u32],
+) -> PathAnswer
+    ensures { λ r. ⌜ Real r ⌝ }
+    ensures { λ r. ⌜ numbersOfPath r ≡ (Calls.first (requestOf (now (profile .entry)) (ingress .0) (source .0) (destination .0) (now (include .entry)) (now (exclude .entry)) limits) (length (now (path .entry)))) .numbers ⌝ }
+    ensures { λ _. ⌜ now (path .exit) ≡ over ((Calls.first (requestOf (now (profile .entry)) (ingress .0) (source .0) (destination .0) (now (include .entry)) (now (exclude .entry)) limits) (length (now (path .entry)))) .written) (now (path .entry)) ⌝ }
+{
+    let reply = first_route(
+        profile,
+        ingress,
+        source,
+        destination,
+        include,
+        exclude,
+        limits,
+        path.len(),
+    );
+    hand_out(reply, path)
+}
+
+// The next of the shortest paths after a given list, which need not be a path.
+pub fn next(
+    profile: &[u8],
+    ingress: DomainIndex,
+    source: NodeAddress,
+    destination: NodeAddress,
+    include: &[u8],
+    exclude: &[u8],
+    limits: Limits,
+    given: &[u32],
+    path: &mut [u32],
+) -> PathAnswer
+    ensures { λ r. ⌜ Real r ⌝ }
+    ensures { λ r. ⌜ numbersOfPath r ≡ (Calls.next (requestOf (now (profile .entry)) (ingress .0) (source .0) (destination .0) (now (include .entry)) (now (exclude .entry)) limits) (now (given .entry)) (length (now (path .entry)))) .numbers ⌝ }
+    ensures { λ _. ⌜ now (path .exit) ≡ over ((Calls.next (requestOf (now (profile .entry)) (ingress .0) (source .0) (destination .0) (now (include .entry)) (now (exclude .entry)) limits) (now (given .entry)) (length (now (path .entry)))) .written) (now (path .entry)) ⌝ }
+{
+    let reply = next_route(
+        profile,
+        ingress,
+        source,
+        destination,
+        include,
+        exclude,
+        limits,
+        given,
+        path.len(),
+    );
+    hand_out(reply, path)
+}

@@ -1,0 +1,4 @@
+pub mod Pieces
+pub mod Steps
+pub mod Outcomes
+pub mod Forms

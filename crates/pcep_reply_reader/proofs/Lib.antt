@@ -1,0 +1,3 @@
+pub mod Route
+pub mod Checks
+pub mod Answers

@@ -1,0 +1,2 @@
+pub mod CheckedPcrep
+pub mod Reading

@@ -1,0 +1,73 @@
+-- A call through a PCReq is the frame's refusal, or the call on the request that is carried: one law for trees and one for paths.
+use Prim.Native.Nat.{ℕ}
+use mathlib.Core.Path.{_≡_, refl, sym, ap, subst, _∙_}
+use mathlib.Core.List.{List}
+use lib.Ieee.{Float}
+use native.Mathlib.Omega.{arith}
+use Rattle.model.specs.declared.Limits.{Limits}
+use Rattle.model.specs.declared.Round.{Round}
+use Rattle.model.specs.declared.PathAnswer.the-variants as Path
+use Rattle.model.specs.declared.Refusal.{Refusal}
+use Rattle.model.specs.declared.TreeAnswer.the-variants as Tree
+use Rattle.model.specs.declared.TreeEntry.{TreeEntry}
+use Rattle.model.specs.declared.Verdict.{Verdict}
+use Rattle.model.specs.declared.Verdict.the-variants.{Pass, Refuse}
+use Rattle.model.specs.Request.{limitsOfBits}
+use Rattle.model.specs.Calls.{Outcome}
+use Rattle.laws.proofs.Lists.{over-nothing}
+use Rattle.request.specs.CheckedRequest.{requestOf}
+use Rattle.tree_fields.specs.TreeResult.{TreeIn}
+use Rattle.pcep_model.specs.declared.MessageKind.the-variants.{Pcreq}
+use Rattle.pcep_model.specs.Objects.{messageVerdict}
+use Rattle.pcep_model.specs.Pcreq.{listIn, carried, behind}
+use Rattle.pcep_request_reader.specs.declared.fields.ParsedPcreq.{ParsedPcreq}
+use Rattle.pcep_request_reader.specs.ParsedPcreq.{ParsedPcreqIs}
+use Rattle.pcep_request_calls.specs.declared.CarriedRequest.{CarriedRequest}
+use Rattle.pcep_request_calls.specs.Through.{CarriedRequestIs, PathIn}
+
+module _ {A : Type 0} where
+  behind-refused : (v : Verdict) (o : Outcome A) (x : Refusal) → v ≡ Refuse x → behind v o ≡ behind (Refuse x) o
+  behind-refused v o x e = ap (λ (w : Verdict). behind w o) e
+
+  pub behind-passed : (v : Verdict) (o : Outcome A) → v ≡ Pass → behind v o ≡ o
+  behind-passed v o e = ap (λ (w : Verdict). behind w o) e
+
+-- no path is found in a refusal
+not-found : (r : Refusal) (total : ℕ) (x : Float) (round : Round) → Path.Refused r ≡ Path.Found total x round → ⊥
+not-found r total x round e = let z : _≡_ {A = ℕ} 0 1 = cc in omega arith
+
+pub path-refused : (v : Verdict) (o : Outcome ℕ) (path : List ℕ) (x : Refusal) → v ≡ Refuse x → PathIn (behind v o) path (Path.Refused x) path
+path-refused v o path x e =
+    subst (λ (b : Outcome ℕ). PathIn b path (Path.Refused x) path) (sym (behind-refused v o x e))
+    (record { real = λ total y round f. absurd (not-found x total y round f); numbers = refl; in-path = sym (over-nothing path) })
+
+pub tree-refused
+    : (v : Verdict) (o : Outcome TreeEntry) (levels addresses marks costs : List ℕ) (x : Refusal) → v ≡ Refuse x
+    → TreeIn (behind v o) levels addresses marks costs (Tree.Refused x) levels addresses marks costs
+tree-refused v o levels addresses marks costs x e =
+    subst (λ (b : Outcome TreeEntry). TreeIn b levels addresses marks costs (Tree.Refused x) levels addresses marks costs) (sym (behind-refused v o x e))
+    (record {
+      numbers = refl;
+      in-levels = sym (over-nothing levels);
+      in-addresses = sym (over-nothing addresses);
+      in-marks = sym (over-nothing marks);
+      in-costs = sym (over-nothing costs);
+    })
+
+-- what was taken apart, with the limits of its bits, is the request carried
+pub carried-request
+    : (s : List ℕ) (t : ParsedPcreq) → ParsedPcreqIs s t → t .verdict ≡ Pass
+    → (limits : Limits) → limits ≡ limitsOfBits (t .fields .bandwidth) (t .bounded) (t .bound)
+    → (profile : List ℕ) (ingress : ℕ)
+    → requestOf profile ingress (t .fields .source .0) (t .fields .destination .0) (listIn s (t .fields .include)) (listIn s (t .fields .exclude)) limits ≡ carried profile ingress s
+carried-request s t is pass limits e profile ingress = rw (e, is .bounded pass, is .bound pass, (is .fields pass) .are) refl
+
+-- the request that a call is made on, with the lists as they were lent to it, is the one carried
+module _ (s : List ℕ) (r : CarriedRequest) (is : CarriedRequestIs s r) (pass : r .verdict ≡ Pass) where
+  pub frame-right : messageVerdict Pcreq s ≡ Pass
+  frame-right = sym (is .verdict) ∙ pass
+
+  pub same-request
+      : (profile : List ℕ) (ingress : ℕ) (include exclude : List ℕ) → include ≡ listIn s (r .include) → exclude ≡ listIn s (r .exclude)
+      → requestOf profile ingress (r .source .0) (r .destination .0) include exclude (r .limits) ≡ carried profile ingress s
+  same-request profile ingress include exclude i e = rw (i, e) (is .request pass profile ingress)

@@ -1,0 +1,3 @@
+mod SameAreas
+mod Areas
+pub mod Fields

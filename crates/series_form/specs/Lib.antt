@@ -1,2 +1,0 @@
--- Names for the contracts of this crate.
-pub mod Calls

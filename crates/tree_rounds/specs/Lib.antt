@@ -1,0 +1,2 @@
+pub mod ChosenRound
+pub mod Kept

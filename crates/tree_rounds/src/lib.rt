@@ -1,0 +1,124 @@
+// The rounds of a query (RFC 5521's desired exclusions): the tree with every exclusion, and, where that has no admissible path and some exclusion
+// has X set, the tree with only those of X clear.
+use bound::keeps_bound;
+use list_exclusion::some_desired;
+use model::Limits;
+use model::Round;
+use profile_records::layout::Layout;
+use request::Query;
+use request::in_round;
+use tree_levels::lay_out;
+use tree_reaches::UNREACHABLE;
+use tree_vspt::fill_tree;
+ghost use mathlib.Core.Path.{_≡_};
+ghost use mathlib.Core.Bool.{true, not, _&&_};
+ghost use Prim.Native.Nat.{_≤_};
+ghost use lib.ListN.{length};
+ghost use Rattle.model.specs.declared.ListKind.the-variants.{Exclude};
+ghost use Rattle.model.specs.declared.Verdict.the-variants.{Pass};
+ghost use Rattle.model.specs.Profile.{costLimit};
+ghost use Rattle.model.specs.Exclusion.{someDesired};
+ghost use Rattle.model.specs.Floats.{inRange};
+ghost use Rattle.model.specs.Subobject.{formVerdict, subobjects};
+ghost use Rattle.profile_records.specs.Layout.{layoutOf, SoundLayout};
+ghost use Rattle.tree_levels.specs.Levels.{Room};
+ghost use Rattle.request.specs.Query.{Ready};
+ghost use Rattle.tree_rounds.specs.Kept.{keptBy};
+ghost use Rattle.tree_rounds.specs.ChosenRound.{ChosenRoundIs};
+
+// A query in the round that applies, and how many hop records were examined in all rounds (the tally).
+pub struct ChosenRound {
+    pub query: Query,
+    pub tally: usize,
+}
+
+// The source reaches the destination, and its least cost keeps the bound.
+pub fn admissible(limits: Limits, here: u32) -> bool
+    requires { ⌜ (limits .bounded ≡ true → inRange (limits .bound) ≡ true) ⌝ }
+    ensures { λ r. ⌜ r ≡ keptBy limits here ⌝ }
+{
+    if here == UNREACHABLE {
+        return false;
+    }
+    keeps_bound(limits, here)
+}
+
+// A second round is needed: the first has no admissible path, by the source's number, and some exclusion has X set.
+fn needs_second(exclude: &[u8], limits: Limits, here: u32) -> bool
+    requires { ⌜ (formVerdict Exclude (now exclude) ≡ Pass) × (limits .bounded ≡ true → inRange (limits .bound) ≡ true) ⌝ }
+    ensures { λ r. ⌜ r ≡ someDesired (subobjects (now (exclude .entry))) && not (keptBy limits here) ⌝ }
+{
+    if admissible(limits, here) {
+        return false;
+    }
+    some_desired(exclude)
+}
+
+// The tree of a query in the round that applies: its places' entries, laid out once, and how each reaches the destination. The second round's numbers
+// are written over the first's.
+pub fn settle(
+    s: &[u8],
+    layout: Layout,
+    exclude: &[u8],
+    q: Query,
+    addresses: &mut [u32; 242],
+    reaches: &mut [u32; 242],
+    starts: &mut [usize; 18],
+    firsts: &mut [usize; 16],
+    lasts: &mut [usize; 16],
+) -> ChosenRound
+    requires { ⌜ SoundLayout (layoutOf layout) × (layoutOf layout .mostCost ≤ costLimit) × Ready (layoutOf layout) (now s) (now exclude) q ⌝ }
+    requires { ⌜ Room (now addresses) (now starts) (now firsts) (now lasts) × (length (now reaches) ≡ 242) ⌝ }
+    ensures { λ r. ⌜ ChosenRoundIs (layoutOf layout) (now (s .entry)) (now (exclude .entry)) q (now (addresses .exit)) (now (reaches .exit)) (now (starts .exit)) (now (firsts .exit)) (now (lasts .exit)) r ⌝ }
+{
+    let domains = q.domains;
+    let source = q.source;
+    let destination = q.destination;
+    let limits = q.limits;
+    let examined = lay_out(
+        s,
+        layout,
+        domains,
+        q.count,
+        source,
+        destination,
+        addresses,
+        starts,
+        firsts,
+        lasts,
+    );
+    let first = in_round(q, Round::First);
+    fill_tree(
+        s,
+        layout,
+        exclude,
+        first,
+        &*addresses,
+        &*starts,
+        &*firsts,
+        &*lasts,
+        reaches,
+    );
+    if !needs_second(exclude, limits, reaches[0]) {
+        return ChosenRound {
+            query: first,
+            tally: examined,
+        };
+    }
+    let second = in_round(q, Round::Second);
+    fill_tree(
+        s,
+        layout,
+        exclude,
+        second,
+        &*addresses,
+        &*starts,
+        &*firsts,
+        &*lasts,
+        reaches,
+    );
+    ChosenRound {
+        query: second,
+        tally: examined + examined,
+    }
+}

@@ -1,0 +1,130 @@
+-- The recursion over the sequence, one call at a time, over plain lists: the last place is the destination's, and one step before what is written writes one place
+-- more. From the laws of one step and of numbers written one before the other.
+use mathlib.Core.Path.{_≡_, refl, sym, ap, ap₂, subst₂, _∙_}
+use mathlib.Core.Bool.{not}
+use mathlib.Core.List.{List, map, List·Memᴰ}
+use Prim.Native.Nat.{ℕ, suc, _+_, _-_, _≤_, _<_}
+use native.Mathlib.Omega.{arith}
+use lib.ListN.{length, getD, set, length-map}
+use lib.Seq.{slice, paste, length-paste}
+use Rattle.model.specs.declared.Hop.{Hop}
+use Rattle.model.specs.Profile.{Layout, hops, costLimit}
+use Rattle.model.specs.Subobject.{subobjects}
+use Rattle.model.specs.Exclusion.{inForce, excludedNode}
+use Rattle.model.specs.Request.{Search}
+use Rattle.laws.proofs.AcceptedPaths.{accepted-costs}
+use Rattle.tree_levels.specs.Levels.{nodesAt, startOf}
+use Rattle.tree_levels.proofs.Blocks.{place-nodes}
+use Rattle.request.specs.declared.Query.{Query}
+use Rattle.request.specs.Query.{searchFor, Ready}
+use Rattle.tree_step.specs.declared.Leg.{Leg}
+use Rattle.tree_vspt.specs.Leg.{LegIs}
+use Rattle.tree_reaches.specs.Reaches.{codeIf, codeAt, NextPlace}
+use Rattle.tree_step.specs.Step.{levelCodes}
+use Rattle.tree_vspt.specs.Tree.{Holds, filledAt, filledFrom, LaidOutFor}
+use Rattle.tree_vspt.proofs.Filled.{level-long, codes-long, end-nodes, filled-end, filled-more, filled-first, filled-long}
+use Rattle.tree_vspt.proofs.Known.{end-code}
+use Rattle.tree_vspt.proofs.Next.{next-place-of}
+use Rattle.tree_vspt.proofs.LevelIs.{level-codes-is}
+use Rattle.tree_vspt.proofs.Sequences.{stops-long}
+
+module _
+    (L : Layout) (s exclude : List ℕ) (q : Query) (most : L .mostCost ≤ costLimit) (ready : Ready L s exclude q)
+    (addresses starts firsts lasts : List ℕ) (out : LaidOutFor L s exclude q addresses starts firsts lasts)
+  where
+    abbrev S : Search
+    S = searchFor L s exclude q
+
+    few : length (S .sequence) ≤ 16
+    few = omega (arith, stops-long q, ready .most)
+
+    cheap : (h : Hop) → List·Memᴰ h (S .hops) → h .cost ≤ costLimit
+    cheap h m = let k = accepted-costs L s (ready .profile-right) h m in omega arith
+
+    -- a place starts no later than the end
+    ends-by : (i : ℕ) → i ≤ suc (q .count) → startOf S i ≤ startOf S (suc (length (S .sequence)))
+    ends-by i h =
+        let e : i + (suc (length (S .sequence)) - i) ≡ suc (length (S .sequence)) = omega (arith, stops-long q) in
+        let m = ap (startOf S) e in
+        omega (arith, codes-long S i (suc (length (S .sequence)) - i))
+
+    starts-by : (i : ℕ) → i ≤ suc (q .count) → startOf S i ≤ 242
+    starts-by i h = omega (arith, out .laid .fits, ends-by i h)
+
+    later : (i : ℕ) → startOf S i ≤ startOf S (suc i)
+    later i = omega (arith, level-long S i)
+
+    -- ---- the last place
+
+    pub end-inside : (i : ℕ) → i ≡ q .count → getD starts i 0 < 242
+    end-inside i e =
+        let at = out .laid .starts-are i (omega (arith, stops-long q)) in
+        let nodes = ap length (end-nodes S i (e ∙ sym (stops-long q))) in
+        let m = length-map (nodesAt S i) (codeAt S i) in
+        let next = level-long S i in
+        omega (arith, starts-by (suc i) (omega arith))
+
+    pub filled-last
+        : (i : ℕ) (d : List ℕ) (value : ℕ) → i ≡ q .count → length d ≡ 242
+        → value ≡ codeIf (not (excludedNode (inForce (q .round) (subobjects exclude)) (q .destination .0))) 0
+        → set d (getD starts i 0) value ≡ filledFrom S i 1 d
+    filled-last i d value e long v =
+        let n : i ≡ length (S .sequence) = e ∙ sym (stops-long q) in
+        let at = out .laid .starts-are i (omega (arith, stops-long q)) in
+        ap₂ (set d) at (v ∙ sym (end-code S few cheap) ∙ ap (λ (k : ℕ). codeAt S k (S .destination)) (sym n))
+        ∙ filled-end S i d n (omega (arith, end-inside i e))
+
+    -- ---- one place, from the one after it
+
+    module _ (i : ℕ) (h : i < q .count) (mid : List ℕ) (long : length mid ≡ 242) (holds : Holds S (suc i) mid) (leg : Leg) (is : LegIs S (q .round) i leg) where
+      here-nodes : slice (leg .start) (leg .next) addresses ≡ nodesAt S i
+      here-nodes =
+          (λ j. slice (is .start-is j) (is .next-is j) addresses)
+          ∙ place-nodes S L s addresses starts firsts lasts (out .examined) (out .laid) i (omega (arith, stops-long q))
+
+      next-nodes : slice (leg .next) (leg .end) addresses ≡ nodesAt S (suc i)
+      next-nodes =
+          (λ j. slice (is .next-is j) (is .end-is j) addresses)
+          ∙ place-nodes S L s addresses starts firsts lasts (out .examined) (out .laid) (suc i) (omega (arith, stops-long q))
+
+      known : slice (leg .next) (leg .end) mid ≡ map (codeAt S (suc i)) (nodesAt S (suc i))
+      known = (λ j. slice (is .next-is j) (is .end-is j) mid) ∙ holds
+
+      pub in-order : leg .start ≤ leg .next
+      in-order = let a = is .start-is in let b = is .next-is in omega (arith, later i)
+
+      pub next-place : NextPlace addresses mid (leg .next) (leg .end)
+      next-place =
+          subst₂ (NextPlace addresses mid) (sym (is .next-is)) (sym (is .end-is))
+          (next-place-of S L s addresses starts firsts lasts (out .examined) (out .laid) (suc i) (omega (arith, stops-long q)) few cheap mid
+          (omega (arith, starts-by (suc (suc i)) (omega arith))) holds)
+
+      pub placed
+          : (exit : List ℕ) → exit ≡ paste mid (leg .start) (levelCodes L s exclude leg (q .limits .bandwidth) addresses mid) (leg .next - leg .start)
+          → exit ≡ filledAt S i mid
+      placed exit e =
+          let codes = level-codes-is S (q .round) L s exclude few cheap refl refl i (omega (arith, stops-long q)) leg is addresses mid here-nodes next-nodes known in
+          let count : leg .next - leg .start ≡ length (map (codeAt S i) (nodesAt S i)) = let a = is .start-is in let b = is .next-is in omega (arith, level-long S i) in
+          e ∙ (λ j. paste mid (is .start-is j) (codes j) (count j))
+
+    -- what is written keeps the length
+    pub placed-long : (i : ℕ) → i < q .count → (mid exit : List ℕ) → length mid ≡ 242 → exit ≡ filledAt S i mid → length exit ≡ length mid
+    placed-long i h mid exit long e =
+        ap length e
+        ∙ length-paste mid (startOf S i) (map (codeAt S i) (nodesAt S i)) (length (map (codeAt S i) (nodesAt S i)))
+        (omega (arith, level-long S i, starts-by (suc i) (omega arith))) (omega arith)
+
+    -- ---- a place before those written
+
+    module _ (i m : ℕ) (h : i + suc m ≡ q .count) (d mid : List ℕ) (long : length d ≡ 242) (written : mid ≡ filledFrom S (suc i) (suc m) d) where
+      pub mid-long : length mid ≡ 242
+      mid-long = ap length written ∙ filled-long S (suc i) (suc m) d (omega (arith, starts-by (suc i + suc m) (omega arith))) ∙ long
+
+      pub next-codes : Holds S (suc i) mid
+      next-codes = ap (slice (startOf S (suc i)) (startOf S (suc (suc i)))) written ∙ filled-first S (suc i) m d (omega (arith, starts-by (suc i) (omega arith)))
+
+      pub filled-step : (exit : List ℕ) → exit ≡ filledAt S i mid → exit ≡ filledFrom S i (suc (suc m)) d
+      filled-step exit e = e ∙ ap (filledAt S i) written ∙ filled-more S i (suc m) d (omega (arith, starts-by (suc i) (omega arith)))
+
+      pub exit-long : (exit : List ℕ) → exit ≡ filledAt S i mid → length exit ≡ length d
+      exit-long exit e = placed-long i (omega arith) mid exit mid-long e ∙ mid-long ∙ sym long
