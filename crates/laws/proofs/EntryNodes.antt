@@ -15,8 +15,8 @@ use Rattle.model.specs.Lists.{keepIf, keep, different}
 use Rattle.model.specs.Profile.{Layout, hopCount, hopAt, hops, between, entryNodes, crowded}
 use Rattle.laws.proofs.Tests.{decide, and-false}
 use Rattle.laws.specs.Sorted.{Sorted}
-use Rattle.laws.proofs.Lists.{keep-append, mem-keep, mem-map}
-use Rattle.laws.proofs.ProfileLists.{mem-different, different-ascending}
+use Rattle.laws.proofs.Lists.{keep-append, keep-mem, mem-keep, map-mem, mem-map}
+use Rattle.laws.proofs.ProfileLists.{different-mem, mem-different, different-ascending}
 use Rattle.laws.proofs.Records.{length-hops, take-hops}
 use Rattle.laws.proofs.HopKeys.{between-both}
 use Rattle.laws.proofs.Accepted.{AcceptedProfile}
@@ -30,6 +30,14 @@ module _ (d e : ℕ) where
   pub entryNodes-ascending : (hs : List Hop) → Sorted _<_ (entryNodes d e hs)
   unfolding entryNodes
   entryNodes-ascending hs = different-ascending (map headOf (keep (between d e) hs))
+
+  -- an entry node is the head of a hop of the pair
+  pub entryNodes-mem : (hs : List Hop) {v : ℕ} → List·Memᴰ v (entryNodes d e hs) → (h : Hop) × List·Memᴰ h hs × (between d e h ≡ true) × (v ≡ h .head .0)
+  unfolding entryNodes
+  entryNodes-mem hs m =
+      let r = map-mem headOf (keep (between d e) hs) (different-mem (map headOf (keep (between d e) hs)) m) in
+      let k = keep-mem (between d e) hs (r .1) in
+      (r .0, k .0, k .1, r .2)
 
   pub mem-entryNodes : (hs : List Hop) {h : Hop} → List·Memᴰ h hs → between d e h ≡ true → List·Memᴰ (h .head .0) (entryNodes d e hs)
   unfolding entryNodes

@@ -61,3 +61,9 @@ pub mod Words
 pub mod Different
 pub mod Ranges
 pub mod Halving
+pub mod Ways
+pub mod RefusalNumbers
+pub mod Listing
+pub mod Quiet
+pub mod Answered
+pub mod Demands

@@ -4,15 +4,16 @@ use mathlib.Core.Path.{_≡_, refl, sym, subst, _∙_, ap}
 use mathlib.Core.Logic.{_↔_, ⊎-elim}
 use mathlib.Core.Bool.{true}
 use mathlib.Core.List.{List, [], _∷_, _++_, map, List·Memᴰ, Memᴰ·cast}
-use Prim.Native.Nat.{ℕ, suc, _*_, _≤_, _<_}
+use Prim.Native.Nat.{ℕ, suc, _+_, _-_, _*_, _≤_, _<_}
 use native.Mathlib.Nat.{eq-or-lt-of-le}
 use native.Mathlib.Omega.{arith}
-use lib.ListN.{length, getD}
+use lib.ListN.{length, getD, drop, length-drop}
+use lib.Seq.{getD-drop}
 use Rattle.model.specs.declared.Hop.{Hop}
 use Rattle.model.specs.Profile.{costLimit}
 use Rattle.model.specs.Sequence.{Stop}
 use Rattle.model.specs.Request.{Search}
-use Rattle.model.specs.Path.{legs, IsPath, total, keepsBound, Admissible, allowed, Route, paths, admissible, totalLimit}
+use Rattle.model.specs.Path.{Leg, legs, noLeg, Step, IsWay, IsPath, total, keepsBound, Admissible, allowed, Route, paths, admissible, totalLimit}
 use Rattle.laws.proofs.Lists.{keep-mem, mem-keep, map-mem, mem-map}
 use Rattle.laws.proofs.Allowed.{allowed-node, allowed-domain, allowed-pin, allowed-destination, domain-allowed, destination-allowed}
 use Rattle.laws.proofs.HopKeys.{SortedHops}
@@ -27,45 +28,53 @@ length-legs [] = refl
 length-legs (d ∷ []) = refl
 length-legs (d ∷ e ∷ rest) = ap suc (length-legs (e ∷ rest))
 
--- ---- a path is a suffix from place 0 on
+-- ---- a way is a suffix over the legs left
 
-path-suffix : (S : Search) (p : List ℕ) → IsPath S p → IsSuffix S (legs (S .sequence)) 0 (S .source) p
-path-suffix S p x =
-    record {
-      long = x .long ∙ ap suc (sym n);
-      start = x .source;
-      steps = λ j l. x .steps j (omega (arith, n));
-      places = λ j l. subst (λ (k : ℕ). allowed S k (getD p j 0) ≡ true) (omega arith) (place j (omega (arith, n)));
-    }
-  where
-    n : length (legs (S .sequence)) ≡ length (S .sequence)
-    n = length-legs (S .sequence)
+module _ (S : Search) (i a : ℕ) (p : List ℕ) (within : i ≤ length (S .sequence)) where
+  left : i + length (drop i (legs (S .sequence))) ≡ length (S .sequence)
+  left = let n = length-legs (S .sequence) in let d = length-drop i (legs (S .sequence)) in omega arith
 
-    place : (j : ℕ) → j ≤ length (S .sequence) → allowed S j (getD p j 0) ≡ true
-    place j l =
-        ⊎-elim
-        (λ (e : j ≡ length (S .sequence)).
-        destination-allowed S j (getD p j 0) (omega arith) (x .nodes j l) (ap (λ (k : ℕ). getD p k 0) e ∙ x .destination))
-        (λ (k : j < length (S .sequence)). domain-allowed S j (getD p j 0) k (x .nodes j l) (x .domains j k) (x .pins j k))
-        (eq-or-lt-of-le l)
+  pub way-suffix : IsWay S i a p → IsSuffix S (drop i (legs (S .sequence))) i a p
+  way-suffix x =
+      record {
+        long = let l = x .long in let n = left in omega arith;
+        start = x .start;
+        steps =
+            λ j l.
+            subst (λ (leg : Leg). Step S leg (getD p j 0) (getD p (suc j) 0)) (sym (getD-drop i (legs (S .sequence)) j noLeg))
+            (x .steps j (let n = left in omega arith));
+        places = λ j l. place j (let n = left in omega arith);
+      }
+    where
+      place : (j : ℕ) → i + j ≤ length (S .sequence) → allowed S (i + j) (getD p j 0) ≡ true
+      place j l =
+          ⊎-elim
+          (λ (e : i + j ≡ length (S .sequence)).
+          let k : j ≡ length (S .sequence) - i = omega arith in
+          destination-allowed S (i + j) (getD p j 0) (omega arith) (x .nodes j l) (ap (λ (m : ℕ). getD p m 0) k ∙ x .destination))
+          (λ (k : i + j < length (S .sequence)). domain-allowed S (i + j) (getD p j 0) k (x .nodes j l) (x .domains j k) (x .pins j k))
+          (eq-or-lt-of-le l)
 
-suffix-path : (S : Search) (p : List ℕ) → IsSuffix S (legs (S .sequence)) 0 (S .source) p → IsPath S p
-suffix-path S p x =
-    record {
-      long = x .long ∙ ap suc n;
-      source = x .start;
-      destination = allowed-destination S (length (S .sequence)) (getD p (length (S .sequence)) 0) (omega arith) (place (length (S .sequence)) (omega arith));
-      steps = λ j l. x .steps j (omega (arith, n));
-      domains = λ j l. allowed-domain S j (getD p j 0) l (place j (omega arith));
-      nodes = λ j l. allowed-node S j (getD p j 0) (place j l);
-      pins = λ j l. allowed-pin S j (getD p j 0) l (place j (omega arith));
-    }
-  where
-    n : length (legs (S .sequence)) ≡ length (S .sequence)
-    n = length-legs (S .sequence)
+  pub suffix-way : IsSuffix S (drop i (legs (S .sequence))) i a p → IsWay S i a p
+  suffix-way x =
+      record {
+        long = let l = x .long in let n = left in omega arith;
+        start = x .start;
+        destination = allowed-destination S (i + end) (getD p end 0) (omega arith) (place end (omega arith));
+        steps =
+            λ j l.
+            subst (λ (leg : Leg). Step S leg (getD p j 0) (getD p (suc j) 0)) (getD-drop i (legs (S .sequence)) j noLeg)
+            (x .steps j (let n = left in omega arith));
+        domains = λ j l. allowed-domain S (i + j) (getD p j 0) l (place j (omega arith));
+        nodes = λ j l. allowed-node S (i + j) (getD p j 0) (place j l);
+        pins = λ j l. allowed-pin S (i + j) (getD p j 0) l (place j (omega arith));
+      }
+    where
+      end : ℕ
+      end = length (S .sequence) - i
 
-    place : (j : ℕ) → j ≤ length (S .sequence) → allowed S j (getD p j 0) ≡ true
-    place j l = subst (λ (k : ℕ). allowed S k (getD p j 0) ≡ true) (omega arith) (x .places j (omega (arith, n)))
+      place : (j : ℕ) → i + j ≤ length (S .sequence) → allowed S (i + j) (getD p j 0) ≡ true
+      place j l = x .places j (let n = left in omega arith)
 
 -- ---- the paths
 
@@ -74,7 +83,7 @@ pub paths-exact : (S : Search) (p : List ℕ) → List·Memᴰ p (map addressesO
 unfolding paths
 paths-exact S p =
     let e = suffixes-exact S (legs (S .sequence)) 0 (S .source) p in
-    (λ m. suffix-path S p (e .0 m), λ x. e .1 (path-suffix S p x))
+    (λ m. suffix-way S 0 (S .source) p (omega arith) (e .0 m), λ x. e .1 (way-suffix S 0 (S .source) p (omega arith) x))
 
 pub path-routes-ascend : (S : Search) → SortedHops (S .hops) → AscendingRoutes (paths S)
 unfolding paths

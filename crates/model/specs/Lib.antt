@@ -18,3 +18,4 @@ pub mod Calls
 pub mod Series
 pub mod WorkedFloats
 pub mod WorkedCases
+pub mod WorkedWays

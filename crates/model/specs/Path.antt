@@ -1,11 +1,11 @@
--- Paths, their totals, the bound and the shortest paths: document 01, "Paths and the tree". `IsPath` and `Admissible` say in document 01's words what
--- the enumeration below lists; that they agree is a law. Document 01's "listing" is `shortestPaths`, its "way" a suffix.
-use Prim.Native.Nat.{ℕ, suc, _+_, _≤_, _<_}
+-- Paths, their totals, the bound and the shortest paths: document 01, "Paths and the tree". `IsWay`, `IsPath` and `Admissible` say in document 01's words
+-- what the enumeration below lists; that they agree is a law. Document 01's "listing" is `shortestPaths`, its "way" a suffix.
+use Prim.Native.Nat.{ℕ, suc, _+_, _-_, _≤_, _<_}
 use mathlib.Core.Path.{_≡_}
 use mathlib.Core.Bool.{Bool, true, false, not, _&&_}
 use mathlib.Core.List.{List, [], _∷_, map, List·Memᴰ}
 use mathlib.Core.Option.{Option, none, some}
-use lib.ListN.{length, getD}
+use lib.ListN.{length, getD, drop}
 use lib.Dec.{eqb, leb, ltb}
 use Rattle.model.specs.declared.Hop.{Hop}
 use Rattle.model.specs.declared.Limits.{Limits}
@@ -59,15 +59,21 @@ pub record Step (S : Search) (leg : Leg) (a b : ℕ) : Type 0 where
   pub head : hop .head .0 ≡ b
   pub usable : usable S hop ≡ true
 
--- k + 2 addresses: source, an entry node for each of D1 to Dk, destination; each step a usable hop record; no domain or address excluded; entry constraints kept
-pub record IsPath (S : Search) (p : List ℕ) : Type 0 where
-  pub long : length p ≡ suc (length (S .sequence))
-  pub source : getD p 0 0 ≡ S .source
-  pub destination : getD p (length (S .sequence)) 0 ≡ S .destination
-  pub steps : (i : ℕ) → i < length (S .sequence) → Step S (legAt S i) (getD p i 0) (getD p (suc i) 0)
-  pub domains : (i : ℕ) → i < length (S .sequence) → excludedDomain (S .exclusions) (domainOf (S .domains) ((stopAt S i) .domain)) ≡ false
-  pub nodes : (i : ℕ) → i ≤ length (S .sequence) → excludedNode (S .exclusions) (getD p i 0) ≡ false
-  pub pins : (i : ℕ) → i < length (S .sequence) → keepsPin ((stopAt S i) .pin) (getD p i 0) ≡ true
+-- A way from the address a at place i has the shape of a path's tail: from there on an address for each domain and the destination, each step a usable hop record.
+-- Only its own addresses (a too) and Di to Dk must keep exclusions and entry constraints.
+pub record IsWay (S : Search) (i a : ℕ) (p : List ℕ) : Type 0 where
+  pub long : i + length p ≡ suc (length (S .sequence))
+  pub start : getD p 0 0 ≡ a
+  pub destination : getD p (length (S .sequence) - i) 0 ≡ S .destination
+  pub steps : (j : ℕ) → i + j < length (S .sequence) → Step S (legAt S (i + j)) (getD p j 0) (getD p (suc j) 0)
+  pub domains : (j : ℕ) → i + j < length (S .sequence) → excludedDomain (S .exclusions) (domainOf (S .domains) ((stopAt S (i + j)) .domain)) ≡ false
+  pub nodes : (j : ℕ) → i + j ≤ length (S .sequence) → excludedNode (S .exclusions) (getD p j 0) ≡ false
+  pub pins : (j : ℕ) → i + j < length (S .sequence) → keepsPin ((stopAt S (i + j)) .pin) (getD p j 0) ≡ true
+
+-- A path is a way from the source at place 0: k + 2 addresses, the source, an entry node for each of D1 to Dk, the destination; each step a usable hop record; no domain
+-- or address excluded; entry constraints kept
+abbrev pub IsPath : Search → List ℕ → Type 0
+IsPath S p = IsWay S 0 (S .source) p
 
 -- the total is the sum of the costs of a path's hops; the hop record from a to b of a leg is the only one
 abbrev pub leads : Leg → ℕ → ℕ → Hop → Bool
@@ -88,6 +94,10 @@ totalOver hs (leg ∷ rest) (a ∷ b ∷ more) = costBetween hs leg a b + totalO
 
 abbrev pub total : Search → List ℕ → ℕ
 total S p = totalOver (S .hops) (legs (S .sequence)) p
+
+-- and from place i on
+abbrev pub totalFrom : Search → ℕ → List ℕ → ℕ
+totalFrom S i p = totalOver (S .hops) (drop i (legs (S .sequence))) p
 
 -- the largest total: sixteen hops of the largest cost. That no path has more is a law
 abbrev pub totalLimit : ℕ

@@ -314,10 +314,28 @@ wide =
     ∷ row (starting (onDearer 16777216 plain) 4) (path (record { numbers = numbers 17 (3 ∷ 0 ∷ 0 ∷ 0 ∷ []); written = [] }))
     ∷ []
 
+-- ---- the width of an excluded prefix, whose bits behind it are ignored
+
+around : ℕ → ℕ → List ℕ
+around last bits = 0x01 ∷ 0x08 ∷ 0xc0 ∷ 0x00 ∷ 0x02 ∷ last ∷ bits ∷ 0x01 ∷ []
+
+pub prefixes : List Row
+prefixes =
+    -- 192.0.2.128/24 takes every node of W, 192.0.2.128/25 none
+    row (starting (onW toEnd (around 0x80 24) plain) 4) (path no-path)
+    ∷ row (starting (onW toEnd (around 0x80 25) plain) 4) (path (costs14 SPUZ))
+    -- 192.0.2.10/31 takes P and leaves Q; /30 takes .8 to .11, so P again; /29 takes .8 to .15, so both
+    ∷ row (starting (onW toEnd (around 0x0a 31) plain) 4) (path (costs14 SQTZ))
+    ∷ row (starting (onW toEnd (around 0x0a 30) plain) 4) (path (costs14 SQTZ))
+    ∷ row (starting (onW toEnd (around 0x0a 29) plain) 4) (path no-path)
+    -- of no bits at all: every node
+    ∷ row (starting (onW toEnd (around 0x0a 0) plain) 4) (path no-path)
+    ∷ []
+
 pub table : List Row
-table = starred ++ desired ++ wide
+table = starred ++ desired ++ wide ++ prefixes
 
 -- every row holds
 pub worked-cases : map (λ (r : Row). outcome (r .case)) table ≡ map (λ (r : Row). r .expected) table
-unfolding profileW profileOspf toEnd toEnd5 throughU back without desiredWithout desiredWithout64511 plain bounded above100 onW short whole alone bookOf outcome numbers through at cut costs14 treeW calls givesIn gives ends none-there SPUZ SPTZ SQTZ SQUZ three no-path row starred desired dearer onDearer spuz wide table countFrom keep all any each among allDifferent sum least same below insert different over number bytesOf allZero inTurn inRanges misplaced Profile.headerWrong Profile.countsWrong Profile.lengthWrong Profile.headerVerdict Profile.domainAt Profile.domains Profile.areaLengthFits Profile.domainMalformed Profile.domainMisordered Profile.domainVerdict Profile.hopAt Profile.hops Profile.hopMalformed Profile.hopMisordered Profile.hopVerdict Profile.entryNodes Profile.crowded Profile.crowdedVerdict Profile.profileVerdict Subobject.known Subobject.lengthFits Subobject.subobjectVerdict Subobject.namedAt Subobject.formFrom Subobject.formVerdict Subobject.subobjectsFrom Subobject.subobjects ofSystem ofArea enter name readOne readAll meaning writtenFrom written stops unwritable inForce someDesired excludedDomain excludedNode units inRange atLeast atMost floatOf requestVerdict sequenceOf searchIn roundOf searchOf Path.legs Path.keepsBound Path.allowed Path.hopsFrom Path.suffixes Path.paths Path.admissible Path.cheapest Path.shortestPaths Tree.entriesAt Tree.entry Tree.tree Tree.tally readingOf readInclude writeList buildTree first greaterThan next book run ofBits toBits ofFields odd size span climb ofInt round isNan Ieee.units trailingZeros
+unfolding profileW profileOspf toEnd toEnd5 throughU back without desiredWithout desiredWithout64511 plain bounded above100 onW short whole alone bookOf outcome numbers through at cut costs14 treeW calls givesIn gives ends none-there SPUZ SPTZ SQTZ SQUZ three no-path row starred desired dearer onDearer spuz wide around prefixes table countFrom keep all any each among allDifferent sum least same below insert different over number bytesOf allZero inTurn inRanges misplaced Profile.headerWrong Profile.countsWrong Profile.lengthWrong Profile.headerVerdict Profile.domainAt Profile.domains Profile.areaLengthFits Profile.domainMalformed Profile.domainMisordered Profile.domainVerdict Profile.hopAt Profile.hops Profile.hopMalformed Profile.hopMisordered Profile.hopVerdict Profile.entryNodes Profile.crowded Profile.crowdedVerdict Profile.profileVerdict Subobject.known Subobject.lengthFits Subobject.subobjectVerdict Subobject.namedAt Subobject.formFrom Subobject.formVerdict Subobject.subobjectsFrom Subobject.subobjects ofSystem ofArea enter name readOne readAll meaning writtenFrom written stops unwritable inForce someDesired excludedDomain excludedNode units inRange atLeast atMost floatOf requestVerdict sequenceOf searchIn roundOf searchOf Path.legs Path.keepsBound Path.allowed Path.hopsFrom Path.suffixes Path.paths Path.admissible Path.cheapest Path.shortestPaths Tree.entriesAt Tree.entry Tree.tree Tree.tally readingOf readInclude writeList buildTree first greaterThan next book run ofBits toBits ofFields odd size span climb ofInt round isNan Ieee.units trailingZeros
 worked-cases = refl

@@ -16,3 +16,5 @@ pub mod PcrepObjects
 pub mod PcrepReadsBack
 pub mod MetricsJudged
 pub mod PcreqIsRequest
+pub mod QuietMessages
+pub mod Demands

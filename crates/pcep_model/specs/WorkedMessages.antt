@@ -29,7 +29,7 @@ use Rattle.pcep_model.specs.Along.{checkedAlong, placesAlong, firstOf}
 use Rattle.pcep_model.specs.Objects.{knownObject, ownLength, objectVerdict, firstObject, messageVerdict}
 use Rattle.pcep_model.specs.Metrics.{Metric, metrics, wrongMetric, boundMetric}
 use Rattle.pcep_model.specs.Pcreq.{pcreqVerdict, readPcreq, pcreqTree, pcreqFirst, pcreqNext}
-use Rattle.pcep_model.specs.Pcrep.{Reading, Reply, stepVerdict, addressesIn, pcrepVerdict, readPcrep, writtenPcrep, writeVerdict, writePcrep}
+use Rattle.pcep_model.specs.Pcrep.{Reading, Reply, stepVerdict, addressesIn, pcrepVerdict, readPcrep, writtenPcrep, writeVerdict, writePcrep, metricsOf, apart}
 
 -- ---- common headers, with the length of the whole message
 
@@ -107,6 +107,13 @@ mixedEro =
     ++ (0x02 ∷ 0x14 ∷ 0x20 ∷ 0x01 ∷ 0x0d ∷ 0xb8 ∷ 0x00 ∷ 0x00 ∷ 0x00 ∷ 0x00 ∷ [])
     ++ (0x00 ∷ 0x00 ∷ 0x00 ∷ 0x00 ∷ 0x00 ∷ 0x00 ∷ 0x00 ∷ 0x01 ∷ 0x80 ∷ 0x00 ∷ [])
 
+-- S, then a subobject of type 0, otherwise as type 1 is
+zeroEro : List ℕ
+zeroEro =
+    (0x07 ∷ 0x10 ∷ 0x00 ∷ 0x14 ∷ [])
+    ++ (0x01 ∷ 0x08 ∷ 0xc0 ∷ 0x00 ∷ 0x02 ∷ 0x01 ∷ 0x20 ∷ 0x00 ∷ [])
+    ++ (0x00 ∷ 0x08 ∷ 0xc0 ∷ 0x00 ∷ 0x02 ∷ 0x63 ∷ 0x20 ∷ 0x00 ∷ [])
+
 -- nature of issue 0, with C
 noPath : List ℕ
 noPath = 0x03 ∷ 0x10 ∷ 0x00 ∷ 0x08 ∷ 0x00 ∷ 0x80 ∷ 0x00 ∷ 0x00 ∷ []
@@ -142,6 +149,7 @@ pub data Case : Type 0 where
   following : List ℕ → List ℕ → ℕ → Case
   readingPcrep : List ℕ → ℕ → ℕ → Case
   writing : Reply → ℕ → Case
+  writingLists : List ℕ → List ℕ → List ℕ → ℕ → Case
 
 pub data Result : Type 0 where
   fields : Outcome Metric → Result
@@ -149,15 +157,6 @@ pub data Result : Type 0 where
   path : Outcome ℕ → Result
   reply : Reading → Result
   bytes : Outcome ℕ → Result
-
--- tree, first and next on W with ingress 0
-pub outcome : Case → Result
-outcome (readingPcreq message room) = fields (readPcreq message room)
-outcome (building message room) = entries (pcreqTree profileW 0 message room)
-outcome (starting message room) = path (pcreqFirst profileW 0 message room)
-outcome (following message given room) = path (pcreqNext profileW 0 message given room)
-outcome (readingPcrep message addressRoom metricRoom) = reply (readPcrep message addressRoom metricRoom)
-outcome (writing r room) = bytes (writePcrep r false room)
 
 pub record Row : Type 0 where
   pub case : Case
@@ -209,6 +208,17 @@ noRoute = reply (record { numbers = numbers 0 (0 ∷ 7 ∷ 0x23 ∷ 0 ∷ 0 ∷ 
 replied : Bool → List ℕ → Bool → List Metric → Reply
 replied found addresses c ms =
     record { requestId = 7; rpFlags = 0x63; found = found; addresses = addresses; nature = 0; cFlag = c; metrics = ms }
+
+-- tree, first and next on W with ingress 0
+pub outcome : Case → Result
+outcome (readingPcreq message room) = fields (readPcreq message room)
+outcome (building message room) = entries (pcreqTree profileW 0 message room)
+outcome (starting message room) = path (pcreqFirst profileW 0 message room)
+outcome (following message given room) = path (pcreqNext profileW 0 message given room)
+outcome (readingPcrep message addressRoom metricRoom) = reply (readPcrep message addressRoom metricRoom)
+outcome (writing r room) = bytes (writePcrep r false room)
+-- SPUZ with METRICs from three lent lists
+outcome (writingLists kinds flags values room) = bytes (writePcrep (replied true SPUZ false (metricsOf kinds flags values)) (apart kinds flags values) room)
 
 pub requests : List Row
 requests =
@@ -281,6 +291,12 @@ exchanged =
     ∷ row (readingPcrep (pcrep 0x34 (rp ++ ero)) 4 0) (route [])
     -- an IPv6 subobject
     ∷ row (readingPcrep (pcrep 0x30 (cleanRp ++ mixedEro)) 4 0) (no-reply 24 8)
+    -- a subobject of type 0
+    ∷ row (readingPcrep (pcrep 0x24 (cleanRp ++ zeroEro)) 4 0) (no-reply 24 8)
+    -- METRIC lists that belong together, and that differ in the number of values alone
+    ∷ row (writingLists (2 ∷ []) (0x02 ∷ []) (0x41600000 ∷ []) 64) (bytes (record { numbers = numbers 0 (0 ∷ 64 ∷ []); written = pathFound }))
+    ∷ row (writingLists (2 ∷ []) (0x02 ∷ []) [] 64) (bytes (record { numbers = numbers 37 (0 ∷ 0 ∷ []); written = [] }))
+    ∷ row (writingLists (2 ∷ []) (0x02 ∷ []) (0x41600000 ∷ 0 ∷ []) 64) (bytes (record { numbers = numbers 37 (0 ∷ 0 ∷ []); written = [] }))
     ∷ []
 
 pub table : List Row
@@ -288,5 +304,5 @@ table = requests ++ answers ++ exchanged
 
 -- every row holds
 pub worked-messages : map (λ (r : Row). outcome (r .case)) table ≡ map (λ (r : Row). r .expected) table
-unfolding pcreq pcrep rp cleanRp rpWithTlv endPoints bandwidth metric14 metric13 endless iro longIro xro demandedOf otherOf ero mixedEro noPath asks asksWith asksWithBoth asksMore pathFound noneFound outcome row numbers metric unread no-answer no-reply costs14 at SPUZ SQTZ SQUZ route noRoute replied requests answers exchanged table profileW countFrom keep all any each among allDifferent sum least same below insert different number bytesOf allZero inTurn inRanges misplaced Profile.headerWrong Profile.countsWrong Profile.lengthWrong Profile.headerVerdict Profile.domainAt Profile.domains Profile.areaLengthFits Profile.domainMalformed Profile.domainMisordered Profile.domainVerdict Profile.hopAt Profile.hops Profile.hopMalformed Profile.hopMisordered Profile.hopVerdict Profile.entryNodes Profile.crowded Profile.crowdedVerdict Profile.profileVerdict Subobject.known Subobject.lengthFits Subobject.subobjectVerdict Subobject.namedAt Subobject.formFrom Subobject.formVerdict Subobject.subobjectsFrom Subobject.subobjects ofSystem ofArea enter name readOne readAll meaning inForce someDesired excludedDomain excludedNode units inRange atLeast atMost floatOf requestVerdict sequenceOf searchIn roundOf searchOf Path.legs Path.keepsBound Path.allowed Path.hopsFrom Path.suffixes Path.paths Path.admissible Path.cheapest Path.shortestPaths Tree.entriesAt Tree.entry Tree.tree Tree.tally buildTree first greaterThan next ofBits toBits ofFields odd size span climb ofInt round isNan Ieee.units trailingZeros checkedAlong placesAlong firstOf knownObject ownLength objectVerdict firstObject messageVerdict metrics wrongMetric boundMetric pcreqVerdict readPcreq pcreqTree pcreqFirst pcreqNext stepVerdict addressesIn pcrepVerdict readPcrep writtenPcrep writeVerdict writePcrep
+unfolding pcreq pcrep rp cleanRp rpWithTlv endPoints bandwidth metric14 metric13 endless iro longIro xro demandedOf otherOf ero mixedEro zeroEro noPath asks asksWith asksWithBoth asksMore pathFound noneFound outcome row numbers metric unread no-answer no-reply costs14 at SPUZ SQTZ SQUZ route noRoute replied requests answers exchanged table profileW countFrom keep all any each among allDifferent sum least same below insert different number bytesOf allZero inTurn inRanges misplaced Profile.headerWrong Profile.countsWrong Profile.lengthWrong Profile.headerVerdict Profile.domainAt Profile.domains Profile.areaLengthFits Profile.domainMalformed Profile.domainMisordered Profile.domainVerdict Profile.hopAt Profile.hops Profile.hopMalformed Profile.hopMisordered Profile.hopVerdict Profile.entryNodes Profile.crowded Profile.crowdedVerdict Profile.profileVerdict Subobject.known Subobject.lengthFits Subobject.subobjectVerdict Subobject.namedAt Subobject.formFrom Subobject.formVerdict Subobject.subobjectsFrom Subobject.subobjects ofSystem ofArea enter name readOne readAll meaning inForce someDesired excludedDomain excludedNode units inRange atLeast atMost floatOf requestVerdict sequenceOf searchIn roundOf searchOf Path.legs Path.keepsBound Path.allowed Path.hopsFrom Path.suffixes Path.paths Path.admissible Path.cheapest Path.shortestPaths Tree.entriesAt Tree.entry Tree.tree Tree.tally buildTree first greaterThan next ofBits toBits ofFields odd size span climb ofInt round isNan Ieee.units trailingZeros checkedAlong placesAlong firstOf knownObject ownLength objectVerdict firstObject messageVerdict metrics wrongMetric boundMetric pcreqVerdict readPcreq pcreqTree pcreqFirst pcreqNext stepVerdict addressesIn pcrepVerdict readPcrep writtenPcrep writeVerdict writePcrep metricsOf
 worked-messages = refl

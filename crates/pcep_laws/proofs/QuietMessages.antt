@@ -1,0 +1,151 @@
+-- What the calls that take or make a message say and write by their answer: as for the other calls (`Quiet` of `laws`), with numbers up to 41. By going through the checks.
+use Prim.Native.Nat.{ℕ, zero, suc, _+_, _≤_}
+use native.Mathlib.Omega.{arith}
+use mathlib.Core.Path.{_≡_, refl, sym, subst}
+use mathlib.Core.Logic.{⊎-elim}
+use mathlib.Core.Bool.{Bool, true, false, not, _&&_, _||_}
+use mathlib.Core.List.{List, []}
+use lib.ListN.{length}
+use lib.Dec.{eqb, leb, ltb}
+use borrow.Author.Tests.{ltb-true, ltb-false}
+use Rattle.model.specs.declared.ListKind.the-variants.{Include, Exclude}
+use Rattle.model.specs.declared.Verdict.{Verdict}
+use Rattle.model.specs.declared.Verdict.the-variants.{Pass, Refuse}
+use Rattle.model.specs.Lists.{any}
+use Rattle.model.specs.Subobject as Subobject
+use Rattle.model.specs.Request.{sequenceOf}
+use Rattle.model.specs.Calls.{Outcome, buildTree, first, next}
+use Rattle.laws.proofs.Tests.{decide}
+use Rattle.laws.proofs.RefusalNumbers.{Refusing, passing, test, both, more, subobject-refusing, list-refusing, sequence-reads}
+use Rattle.laws.proofs.Quiet.{QuietNumbers, Quiet, refused-numbers, done-numbers, refused-quiet, done-quiet, room, write-by, tree-of, first-from, next-from}
+use Rattle.pcep_model.specs.declared.MessageKind.{MessageKind}
+use Rattle.pcep_model.specs.declared.MessageKind.the-variants.{Pcreq, Pcrep}
+use Rattle.pcep_model.specs.Along.{checkedAlong}
+use Rattle.pcep_model.specs.Objects.{RP, END-POINTS, NO-PATH, ERO, demandedAt, classAt, typeAt, sizeWrong, knownObject, objectVerdict, afterObject, firstObject, headerWrong, bodyVerdict, messageVerdict}
+use Rattle.pcep_model.specs.Metrics.{Metric, metrics, outOfRange, wrongMetric}
+use Rattle.pcep_model.specs.Pcreq.{bandwidthOf, includeExtent, excludeExtent, listIn, pcreqVerdict, answerPcreq, readPcreq, carried, behind, pcreqTree, pcreqFirst, pcreqNext}
+use Rattle.pcep_model.specs.Pcrep.{stepVerdict, afterStep, routeIn, addressesIn, pcrepVerdict, Reading, answerPcrep, readPcrep, Reply, writtenPcrep, writeVerdict, writePcrep}
+use Rattle.pcep_laws.proofs.Along.{check-step, none-checked}
+
+high : 35 ≤ 41
+high = omega arith
+
+-- ---- the checks of a message
+
+along : (check : ℕ → Verdict) (next : ℕ → ℕ) (end : ℕ) → ((at : ℕ) → Refusing 41 (check at)) → (fuel at : ℕ) → Refusing 41 (checkedAlong fuel check next end at)
+unfolding checkedAlong
+along check next end h zero at = passing 41 high
+along check next end h (suc fuel) at =
+    ⊎-elim
+    (λ (t : ltb at end ≡ true). subst (Refusing 41) (sym (check-step next end check at fuel (ltb-true at end t))) (both 41 high (h at) (along check next end h fuel (next at))))
+    (λ (f : ltb at end ≡ false). subst (Refusing 41) (sym (none-checked next end check (suc fuel) at (ltb-false at end f))) (passing 41 high))
+    (decide (ltb at end))
+
+object-refusing : (k : MessageKind) (s : List ℕ) (at : ℕ) → Refusing 41 (objectVerdict k s at)
+unfolding objectVerdict
+object-refusing k s at =
+    more 41 high
+    (more 41 high (test 41 high (ltb (length s) (at + 4)) 37 at (omega arith)) (sizeWrong k s at) 37 at (omega arith))
+    (demandedAt s at && not (knownObject k (classAt s at) (typeAt s at)))
+    38
+    at
+    (omega arith)
+
+body-refusing : (k : MessageKind) (s : List ℕ) → Refusing 41 (bodyVerdict k s)
+body-refusing Pcreq s = test 41 high (eqb (firstObject END-POINTS s) 0) 40 0 (omega arith)
+body-refusing Pcrep s = test 41 high (eqb (firstObject ERO s) 0 && eqb (firstObject NO-PATH s) 0) 41 0 (omega arith)
+
+message-refusing : (k : MessageKind) (s : List ℕ) → Refusing 41 (messageVerdict k s)
+unfolding messageVerdict
+message-refusing k s =
+    both 41 high
+    (more 41 high
+    (both 41 high (test 41 high (headerWrong k s) 36 0 (omega arith)) (along (objectVerdict k s) (afterObject s) (length s) (object-refusing k s) (length s) 4))
+    (eqb (firstObject RP s) 0)
+    39
+    0
+    (omega arith))
+    (body-refusing k s)
+
+step-refusing : (e : List ℕ) (at : ℕ) → Refusing 41 (stepVerdict e at)
+unfolding stepVerdict
+step-refusing e at =
+    both 41 high (test 41 high (leb (at + 4) (length e) && not (eqb (Subobject.typeAt e at) 1)) 24 at (omega arith)) (subobject-refusing 41 high Include e at)
+
+-- ---- the calls
+
+pcreq-by : (v : Verdict) (s : List ℕ) → Refusing 41 v → Quiet 41 (answerPcreq v s)
+pcreq-by Pass s h = done-quiet 41 high _ (metrics s)
+pcreq-by (Refuse x) s h = refused-quiet 41 high 10 x (h .numbered x refl)
+
+behind-by : {A : Type 0} (v : Verdict) (o : Outcome A) → Refusing 41 v → Quiet 41 o → Quiet 41 (behind v o)
+behind-by Pass o h k = k
+behind-by (Refuse x) o h k = refused-quiet 41 high 3 x (h .numbered x refl)
+
+-- a PCRep that is read: numbers, and what goes to both kinds of buffers
+pub record QuietReading (r : Reading) : Type 0 where
+  pub numbers : QuietNumbers 41 (r .numbers)
+  pub no-addresses : (r .numbers .answer ≡ 0 → ⊥) → r .addresses ≡ []
+  pub no-metrics : (r .numbers .answer ≡ 0 → ⊥) → r .metrics ≡ []
+
+pcrep-by : (v : Verdict) (s : List ℕ) → Refusing 41 v → QuietReading (answerPcrep v s)
+pcrep-by Pass s h =
+    record { numbers = done-numbers 41 high _; no-addresses = λ some. absurd (some refl); no-metrics = λ some. absurd (some refl) }
+pcrep-by (Refuse x) s h =
+    record { numbers = refused-numbers 41 high 7 x (h .numbered x refl); no-addresses = λ some. refl; no-metrics = λ some. refl }
+
+-- ---- one law over all calls
+
+pub record MessagesQuiet : Type 0 where
+  pub read-pcreq : (s : List ℕ) (there : ℕ) → Quiet 41 (readPcreq s there)
+  pub pcreq-tree : (profile : List ℕ) (ingress : ℕ) (s : List ℕ) (there : ℕ) → Quiet 41 (pcreqTree profile ingress s there)
+  pub pcreq-first : (profile : List ℕ) (ingress : ℕ) (s : List ℕ) (there : ℕ) → Quiet 41 (pcreqFirst profile ingress s there)
+  pub pcreq-next : (profile : List ℕ) (ingress : ℕ) (s given : List ℕ) (there : ℕ) → Quiet 41 (pcreqNext profile ingress s given there)
+  pub write-pcrep : (r : Reply) (unequal : Bool) (there : ℕ) → Quiet 41 (writePcrep r unequal there)
+  pub read-pcrep : (s : List ℕ) (addressRoom metricRoom : ℕ) → QuietReading (readPcrep s addressRoom metricRoom)
+
+pub messages-quiet : MessagesQuiet
+unfolding readPcreq pcreqVerdict pcreqTree pcreqFirst pcreqNext buildTree first next writePcrep writeVerdict readPcrep pcrepVerdict
+messages-quiet =
+    record {
+      read-pcreq = λ s there.
+          pcreq-by _ s
+          (both 41 high
+          (both 41 high
+          (both 41 high
+          (more 41 high
+          (more 41 high
+          (both 41 high (message-refusing Pcreq s) (more 41 high (test 41 high (outOfRange (bandwidthOf s)) 21 0 (omega arith)) (not (eqb (wrongMetric s) 0)) 21 1 (omega arith)))
+          (ltb 1024 (length (listIn s (includeExtent s))))
+          22
+          0
+          (omega arith))
+          (ltb 1024 (length (listIn s (excludeExtent s))))
+          22
+          1
+          (omega arith))
+          (list-refusing 41 high Include (listIn s (includeExtent s))))
+          (list-refusing 41 high Exclude (listIn s (excludeExtent s))))
+          (room 41 high (length (metrics s)) there));
+      pcreq-tree = λ profile ingress s there.
+          let r = carried profile ingress s in behind-by (messageVerdict Pcreq s) _ (message-refusing Pcreq s) (tree-of 41 high r (sequenceOf r) there (sequence-reads 41 high r));
+      pcreq-first = λ profile ingress s there.
+          let r = carried profile ingress s in behind-by (messageVerdict Pcreq s) _ (message-refusing Pcreq s) (first-from 41 high r (sequenceOf r) there (sequence-reads 41 high r));
+      pcreq-next = λ profile ingress s given there.
+          let r = carried profile ingress s in
+          behind-by (messageVerdict Pcreq s) _ (message-refusing Pcreq s) (next-from 41 high r (sequenceOf r) given there (sequence-reads 41 high r));
+      write-pcrep = λ r unequal there.
+          write-by 41 high _ (writtenPcrep r)
+          (both 41 high
+          (more 41 high (test 41 high (unequal || ltb 65535 (length (writtenPcrep r))) 37 0 (omega arith)) (any (λ (m : Metric). outOfRange (m .value)) (r .metrics)) 21 1 (omega arith))
+          (room 41 high (length (writtenPcrep r)) there));
+      read-pcrep = λ s addressRoom metricRoom.
+          pcrep-by _ s
+          (both 41 high
+          (both 41 high
+          (both 41 high
+          (more 41 high (message-refusing Pcrep s) (not (eqb (wrongMetric s) 0)) 21 1 (omega arith))
+          (along (stepVerdict (routeIn s)) (afterStep (routeIn s)) (length (routeIn s)) (step-refusing (routeIn s)) (length (routeIn s)) 0))
+          (room 41 high (length (addressesIn (routeIn s))) addressRoom))
+          (room 41 high (length (metrics s)) metricRoom));
+    }
