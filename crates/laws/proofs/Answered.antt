@@ -1,6 +1,6 @@
 -- What tree, first and next answer to an accepted request, in document 01's words: over ways, admissible paths and listed ones. From what the outcomes are of the
 -- definitions' tree and listing, and what these mean (`Ways`, `Listing`).
-use Prim.Native.Nat.{ℕ, zero, suc, _≤_, _<_}
+use Prim.Native.Nat.{ℕ, _<_}
 use native.Mathlib.Omega.{arith}
 use mathlib.Core.Path.{_≡_, refl, sym, ap, subst, _∙_}
 use mathlib.Core.Logic.{_↔_, Iff·trans, _⊎_, inl, inr, ⊎-elim}
@@ -18,7 +18,7 @@ use Rattle.model.specs.Request.{Request, layoutFor, Search, searchIn, Accepted}
 use Rattle.model.specs.Path.{total, Route, shortestPaths}
 use Rattle.model.specs.Tree.{tree}
 use Rattle.model.specs.Rounds.{roundOf, searchOf}
-use Rattle.model.specs.Calls.{Outcome, found, pathLength, answerTree, treeInto, buildTree, first, next}
+use Rattle.model.specs.Calls.{Outcome, found, answerTree, treeInto, buildTree}
 use Rattle.model.specs.Series.{noRoute}
 use Rattle.laws.specs.Sorted.{Sorted}
 use Rattle.laws.proofs.Tests.{decide}
@@ -29,7 +29,7 @@ use Rattle.laws.proofs.Suffixes.{addressesOf}
 use Rattle.laws.proofs.RoundExact.{NoneAdmissible}
 use Rattle.laws.proofs.FirstNextExact.{FirstExact, NextExact}
 use Rattle.laws.proofs.Ways.{EntryMeans, entry-means, TreeHas, tree-has}
-use Rattle.laws.proofs.Listing.{Listed, Listing, the-listing, empty-exactly, none-in-any}
+use Rattle.laws.proofs.Listing.{Listed, Listing, the-listing, empty-exactly}
 
 -- ---- tree
 

@@ -2,7 +2,7 @@
 -- that is at least 35, since messages are refused by more.
 use Prim.Native.Nat.{ℕ, zero, suc, _+_, _≤_}
 use native.Mathlib.Omega.{arith}
-use mathlib.Core.Path.{_≡_, refl, sym, ap, subst, _∙_}
+use mathlib.Core.Path.{_≡_, sym, ap, subst}
 use mathlib.Core.Logic.{⊎-elim}
 use mathlib.Core.Bool.{Bool, true, false, not, _&&_, _||_}
 use mathlib.Core.List.{List, [], _∷_}
@@ -22,7 +22,7 @@ use Rattle.model.specs.Profile.{Layout, version1, classOf, domainCount, hopCoun
 use Rattle.model.specs.Reserved.{asRanges, addressRanges, misplaced}
 use Rattle.model.specs.Floats.{inRange}
 use Rattle.model.specs.Subobject.{Named, prefix, system, area, Subobject, known, lengthFits, topAt, typeAt, areaLengthAt, topWrong, prefixWrong, paddingWrong, lengthAt, subobjectVerdict, formFrom, formVerdict, subobjects}
-use Rattle.model.specs.Sequence.{Stop, Waiting, State, Reading, refused, good, refuse, continue, enterIf, domainsOf, enter, name, wait, areaNext, readSystem, readNamed, readOne, finish, readAll, startIn, meaning, ofSystem, ofArea, withSystem}
+use Rattle.model.specs.Sequence.{Waiting, State, Reading, refused, good, refuse, continue, enterIf, domainsOf, enter, name, wait, areaNext, readSystem, readNamed, readOne, finish, readAll, startIn, meaning, ofSystem, ofArea, withSystem}
 use Rattle.model.specs.Request.{Request, layoutFor, provided, requestVerdict, sequenceOf}
 use Rattle.model.specs.Calls.{readingOf}
 use Rattle.laws.proofs.Tests.{decide}

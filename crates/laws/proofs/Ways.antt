@@ -5,7 +5,7 @@ use native.Mathlib.Omega.{arith}
 use mathlib.Core.Path.{_≡_, refl, sym, ap, subst, _∙_}
 use mathlib.Core.Logic.{_↔_, _⊎_, inl, inr}
 use mathlib.Core.Bool.{true, false}
-use mathlib.Core.List.{List, [], _∷_, map, List·Memᴰ, List·Memᴰ·head, List·Memᴰ·not-nil, List·Memᴰ·eq-of-singleton, Memᴰ·cast}
+use mathlib.Core.List.{List, map, List·Memᴰ, List·Memᴰ·head, List·Memᴰ·not-nil, List·Memᴰ·eq-of-singleton, Memᴰ·cast}
 use lib.ListN.{length, drop}
 use Rattle.model.specs.declared.Hop.{Hop}
 use Rattle.model.specs.declared.TreeEntry.{TreeEntry}
@@ -15,7 +15,7 @@ use Rattle.model.specs.Request.{Search}
 use Rattle.model.specs.Path.{legs, legAt, IsWay, totalFrom, Route}
 use Rattle.model.specs.Tree.{entriesAt, suffixesAt, entry, tree}
 use Rattle.laws.specs.Sorted.{Sorted}
-use Rattle.laws.proofs.Lists.{map-mem, mem-map, countFrom-mem, sorted-map, sorted-each}
+use Rattle.laws.proofs.Lists.{map-mem, mem-map, sorted-map, sorted-each}
 use Rattle.laws.proofs.ProfileLists.{sorted-countFrom}
 use Rattle.laws.proofs.HopKeys.{SortedHops}
 use Rattle.laws.proofs.EntryNodes.{entryNodes-ascending, entryNodes-mem, mem-entryNodes}

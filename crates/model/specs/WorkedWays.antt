@@ -1,13 +1,11 @@
 -- What is no path and no way on profile W, each for the sake of one clause of `IsWay` alone: bandwidth, an entry constraint that the entry itself has to keep, an excluded
 -- domain, an excluded entry.
-use Prim.Native.Nat.{ℕ, _+_, _<_}
+use Prim.Native.Nat.{ℕ}
 use native.Mathlib.Omega.{arith}
 use mathlib.Core.Path.{_≡_, refl, sym, subst, _∙_}
 use mathlib.Core.Bool.{Bool, true, false, _&&_, _||_, false≢true, true≢false}
 use mathlib.Core.List.{List, [], _∷_, List·Memᴰ, List·Memᴰ·head, List·Memᴰ·tail}
 use mathlib.Core.Option.{Option, none, some}
-use lib.ListN.{length, getD}
-use lib.Dec.{eqb}
 use borrow.Author.Tests.{eq-eqb}
 use lib.Ieee.{binary32, ofBits, ofFields, odd, size, span, climb, isNan}
 use lib.Ieee as Ieee

@@ -18,7 +18,7 @@ use Rattle.pcep_laws.specs.Table.{leastOf, fitsLeast}
 use Rattle.pcep_laws.proofs.Table.{own-is}
 use Rattle.pcep_laws.proofs.Along as Along
 use Rattle.pcep_laws.proofs.Objects.{right-object, further, places-whole}
-use Rattle.pcep_laws.specs.Left.{objectsLeft, placesLeft, metricsLeft}
+use Rattle.pcep_laws.specs.Left.{objectsLeft, metricsLeft}
 use Rattle.pcep_laws.specs.Metrics.{metricPlaces, hasB, isWrong}
 
 -- ---- a test of some of the places

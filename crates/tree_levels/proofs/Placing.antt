@@ -12,7 +12,7 @@ use borrow.Author.Tests.{lt-ltb, le-ltb, eq-eqb, ne-eqb, ltb-true, eqb-true, eqb
 use Rattle.model.specs.Lists.{insertAt, insert}
 use Rattle.laws.proofs.Tests.{and-both, and-false}
 use Rattle.laws.proofs.Ranges.{getD-slice, slice-cut}
-use Rattle.tree_levels.specs.Entries.{Sought, placed}
+use Rattle.tree_levels.specs.Entries.{FoundNode, placed}
 
 -- ---- neighbouring parts
 
@@ -147,7 +147,7 @@ module _ (old : List ℕ) (at end x : ℕ) (h : at ≤ end) (k : end < length ol
 
 -- ---- a number put into the cells from `from` up to `end`, where it was sought
 
-module _ (l : List ℕ) (from end x r : ℕ) (sought : Sought l from end x r) (h : end ≤ length l) where
+module _ (l : List ℕ) (from end x r : ℕ) (sought : FoundNode l from end x r) (h : end ≤ length l) where
   split : insert x (slice from end l) ≡ slice from r l ++ insert x (slice r end l)
   split =
       let low = sought .low in

@@ -8,7 +8,7 @@ use Rattle.model.specs.Lists.{different}
 use Rattle.model.specs.Profile.{Layout, hops}
 
 -- of the cells from `from` up to `end`, r is the first whose address isn't below the node, or `end`
-pub record Sought (addresses : List ℕ) (from end node r : ℕ) : Type 0 where
+pub record FoundNode (addresses : List ℕ) (from end node r : ℕ) : Type 0 where
   pub low : from ≤ r
   pub high : r ≤ end
   pub below : (k : ℕ) → from ≤ k → k < r → getD addresses k 0 < node

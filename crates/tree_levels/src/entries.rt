@@ -8,7 +8,7 @@ ghost use lib.Dec.{eqb, ltb};
 ghost use lib.ListN.{length, getD};
 ghost use lib.Seq.{slice};
 ghost use Rattle.model.specs.Lists.{insert};
-ghost use Rattle.tree_levels.specs.Entries.{Sought, placed};
+ghost use Rattle.tree_levels.specs.Entries.{FoundNode, placed};
 
 // Whether the cell at `at`, if it is before `end`, has this node.
 pub fn is_at(addresses: &[u32; 242], at: usize, end: usize, node: NodeAddress) -> bool
@@ -24,7 +24,7 @@ pub fn is_at(addresses: &[u32; 242], at: usize, end: usize, node: NodeAddress) -
 // The first cell from `from` on, before `end`, whose address isn't below the node; else `end`.
 fn seek(addresses: &[u32; 242], from: usize, end: usize, node: NodeAddress) -> usize
     requires { ⌜ (from ≤ end) × (end ≤ 242) ⌝ }
-    ensures { λ r. ⌜ Sought (now (addresses .entry)) from end (node .0) r ⌝ }
+    ensures { λ r. ⌜ FoundNode (now (addresses .entry)) from end (node .0) r ⌝ }
 {
     let mut at = from;
     while at < end {
