@@ -9,7 +9,10 @@ ghost use Rattle.model.specs.Subobject.{formVerdict, subobjects};
 ghost use Rattle.model.specs.Exclusion.{counts as countsIn, inForce, someDesired, inPrefix, takesDomain, takesNode, excludedDomain, excludedNode};
 ghost use Rattle.list_subobject.specs.Items.{namedOf, AreaInside};
 use list_subobject::item::Named;
+use list_subobject::walk::moved_past;
 use list_subobject::walk::subobject_at;
+use list_subobject::walk::subobject_here;
+use list_subobject::walk::walk_from;
 use model::Domain;
 use model::NodeAddress;
 use model::Round;
@@ -136,13 +139,13 @@ pub fn some_desired(list: &[u8]) -> bool
     requires { ⌜ formVerdict Exclude (now list) ≡ Pass ⌝ }
     ensures { λ r. ⌜ r ≡ someDesired (subobjects (now (list .entry))) ⌝ }
 {
-    let mut at: usize = 0;
-    while at < list.len() {
-        let item = subobject_at(list, at);
+    let mut w = walk_from(list, 0);
+    while w.at < list.len() {
+        let item = subobject_here(w);
         if item.top {
-            return true;
+            break;
         }
-        at = item.next;
+        w = moved_past(w);
     }
-    false
+    w.at < list.len()
 }

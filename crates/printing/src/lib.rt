@@ -27,10 +27,10 @@ pub fn print_tally(entries: u32, tally: u32, round: u32) {
 }
 
 // One entry of a tree.
-pub fn print_entry(level: u32, node: u32, reachable: u8, cost: u32) {
+pub fn print_entry(level: u32, node: u32, reachable: bool, cost: u32) {
     number(b"  level ", level);
     address(b": ", node);
-    if reachable == 1 {
+    if reachable {
         number(b", reachable, cost ", cost);
         text(b"\n");
     } else {

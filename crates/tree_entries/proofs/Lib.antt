@@ -1,4 +1,3 @@
 pub mod Filled
-pub mod Search
 pub mod Steps
 pub mod FillCall

@@ -9,9 +9,11 @@ use crate::cases::S;
 use crate::cases::WITHOUT_Q;
 use crate::cases::Z;
 use crate::cases::limits;
+use crate::lent::lent_tree;
 use model::DomainIndex;
 use model::NodeAddress;
 use model::TreeAnswer;
+use model::TreeEntry;
 use path_answers::numbers::five_of;
 use path_answers::numbers::round_number;
 use path_calls::first;
@@ -22,21 +24,17 @@ use printing::print_path;
 use printing::print_refusal;
 use printing::print_tally;
 use printing::text;
-use tree_fields::tree_numbers;
 
 mod cases;
+mod lent;
 
-fn print_entries(
-    entries: u32,
-    level: &[u32; 5],
-    address: &[u32; 5],
-    reachable: &[u8; 5],
-    cost: &[u32; 5],
-) {
+// The first `count` of the entries that were lent.
+fn print_entries(entries: [TreeEntry; 5], count: u32) {
     let mut i = 0;
-    let mut left = entries;
+    let mut left = count;
     while i < 5 && left > 0 {
-        print_entry(level[i], address[i], reachable[i], cost[i]);
+        let e = entries[i];
+        print_entry(e.level, e.address.0, e.reachable, e.cost);
         i += 1;
         left -= 1;
     }
@@ -44,11 +42,7 @@ fn print_entries(
 
 // The tree. On this profile it has at most five entries: S, P, Q, T and U.
 fn show_tree(profile: &[u8], include: &[u8], exclude: &[u8]) {
-    let mut level = [0u32; 5];
-    let mut address = [0u32; 5];
-    let mut reachable = [0u8; 5];
-    let mut cost = [0u32; 5];
-    let answer = tree_numbers(
+    let lent = lent_tree(
         profile,
         DomainIndex(0),
         NodeAddress(S),
@@ -56,19 +50,23 @@ fn show_tree(profile: &[u8], include: &[u8], exclude: &[u8]) {
         include,
         exclude,
         limits(),
-        &mut level,
-        &mut address,
-        &mut reachable,
-        &mut cost,
+        TreeEntry {
+            level: 0,
+            address: NodeAddress(0),
+            reachable: false,
+            cost: 0,
+        },
     );
+    let answer = lent.answer;
+    let entries = lent.entries;
     match answer {
         TreeAnswer::Built {
-            entries,
+            entries: count,
             tally,
             round,
         } => {
-            print_tally(entries, tally, round_number(round));
-            print_entries(entries, &level, &address, &reachable, &cost);
+            print_tally(count, tally, round_number(round));
+            print_entries(entries, count);
         }
         TreeAnswer::Refused(r) => {
             print_refusal(b"tree", r.number, r.place);

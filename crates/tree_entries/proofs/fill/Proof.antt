@@ -51,7 +51,8 @@ use Rattle.laws.proofs.Lists.{over-nothing}
 use Rattle.tree_entries.specs.declared.TreeTable.{TreeTable}
 use Rattle.tree_entries.specs.Entries.{entryAt, entriesOf}
 use Rattle.tree_entries.proofs.Filled.{after, length-after, after-next, after-all}
-use Rattle.tree_entries.proofs.Steps.{Of, calls-plain, gives-up, counts}
+use Rattle.buffers.proofs.Loops.{goes-along}
+use Rattle.tree_entries.proofs.Steps.{Of, calls-plain, gives-up}
 use Rattle.tree_entries.proofs.TreeTable as T
 use Rattle.tree_entries.proofs.TreeTable.Laws as T′
 use Rattle.tree_entries.proofs.entry_of as entry-of
@@ -187,7 +188,7 @@ module _ {M : Type 1} (𝓤 : URA M) (H : Heap 𝓤) (A : Atoms 𝓤) (W : Given
           same = length-after n (t .level) (t .addresses) (t .reaches) ys n (omega arith) fits
 
       started : Sq W (At 0) (runs (𝓣 .C) (𝓣 .Λ) En body.t-2 (atRet En Post))
-      started = first ! $ blocks ! $ counts W 𝓣 n At Left more ends
+      started = first ! $ blocks ! $ goes-along W 𝓣 n At Left (λ i X h k. more i X h (k (suc i) (omega arith) (omega arith))) ends
 
     walk : ent 𝓤 (onEntry 𝓤 H A fill.signature (κ, tt) (q, tt) (bound .0 .3) (bound .0 .4)) (WpFn 𝓤 H (𝓣 .C) (𝓣 .Λ) code.function (s ∷ v ∷ vint w64 n ∷ []) Post)
     walk =

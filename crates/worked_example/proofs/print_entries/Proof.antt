@@ -1,4 +1,4 @@
--- `worked_example::print_entries` is safe and ends: an entry's index is below 5, the length of each array, and the measure is how many are left up to 5.
+-- `worked_example::print_entries` is safe and ends: an entry's index is below 5, the array's length, and the measure is how many are left up to 5.
 -- Assumes nothing.
 use Prim.Native.Nat.{_-_}
 use borrow.Author.Needs.{needs}
@@ -7,34 +7,19 @@ use Rattle.worked_example.proofs.print_entries.Statement.{statement}
 use Rattle.worked_example.proofs.print_entries.Tie as tie
 
 abbrev Inv-loop : tie.InvT-loop
-Inv-loop entries level address reachable cost i₀ left₀ i left = Unit {0}
+Inv-loop count entries i₀ left₀ i left = Unit {0}
 
 abbrev μ-loop : tie.MeasureT-loop
-μ-loop entries level address reachable cost i₀ left₀ i left = 5 - i
+μ-loop count entries i₀ left₀ i left = 5 - i
 
 loop-holds : tie.Need-loop-holds Inv-loop μ-loop
 loop-holds c = tt
 
-mul-print-entry : tie.Need-mul-print-entry Inv-loop μ-loop
-mul-print-entry c = search needs
+mul-e : tie.Need-mul-e Inv-loop μ-loop
+mul-e c = search needs
 
-element-copy-out-print-entry : tie.Need-element-copy-out-print-entry Inv-loop μ-loop
-element-copy-out-print-entry c = search needs
-
-mul-print-entry-2 : tie.Need-mul-print-entry-2 Inv-loop μ-loop
-mul-print-entry-2 c = search needs
-
-element-copy-out-print-entry-2 : tie.Need-element-copy-out-print-entry-2 Inv-loop μ-loop
-element-copy-out-print-entry-2 c = search needs
-
-element-copy-out-print-entry-3 : tie.Need-element-copy-out-print-entry-3 Inv-loop μ-loop
-element-copy-out-print-entry-3 c = search needs
-
-mul-print-entry-3 : tie.Need-mul-print-entry-3 Inv-loop μ-loop
-mul-print-entry-3 c = search needs
-
-element-copy-out-print-entry-4 : tie.Need-element-copy-out-print-entry-4 Inv-loop μ-loop
-element-copy-out-print-entry-4 c = search needs
+array-copy-out-e : tie.Need-array-copy-out-e Inv-loop μ-loop
+array-copy-out-e c = search needs
 
 print-entry-requires : tie.Need-print-entry-requires Inv-loop μ-loop
 print-entry-requires c κs = tt
@@ -58,4 +43,4 @@ returns-2 : tie.Need-returns-2 Inv-loop μ-loop
 returns-2 c = tt
 
 pub print-entries-spec : {M : Type 1} → statement M
-print-entries-spec = tie.close (tie.spec Inv-loop μ-loop loop-holds mul-print-entry element-copy-out-print-entry mul-print-entry-2 element-copy-out-print-entry-2 element-copy-out-print-entry-3 mul-print-entry-3 element-copy-out-print-entry-4 print-entry-requires add-i sub-left loop-less loop-again returns returns-2)
+print-entries-spec = tie.close (tie.spec Inv-loop μ-loop loop-holds mul-e array-copy-out-e print-entry-requires add-i sub-left loop-less loop-again returns returns-2)
