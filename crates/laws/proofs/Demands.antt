@@ -109,6 +109,10 @@ module _ (r : Request) (sequence : List Stop) (bytes : Bytes (r .profile)) (righ
   pub first-means : (room : ℕ) → pathLength sequence ≤ room → FirstMeans (searchOf r sequence) (first r room)
   first-means room h = Answered.first-means (searchOf r sequence) in-search (roundOf r sequence) (first r room) (Claims.first-exact r sequence bytes right room h)
 
+  -- exactly when the listing is empty,
+  pub listing-empty : (shortestPaths (searchOf r sequence) ≡ []) ↔ NoneAdmissible (searchOf r sequence)
+  listing-empty = empty-exactly (searchOf r sequence) in-search
+
   -- and then none is in any round.
   pub none-anywhere : NoneAdmissible (searchOf r sequence) → (x : Round) → NoneAdmissible (searchIn x r sequence)
   none-anywhere = none-in-any r sequence sorted
@@ -143,7 +147,7 @@ module _ (r : Request) (sequence : List Stop) (bytes : Bytes (r .profile)) (righ
   pub series-tells-none
       : (before : List Call) (buffer : List ℕ) (behind : List Call) → pathLength sequence ≤ length buffer
       → ((replyAt (length before) (run r [] (before ++ (firstWith buffer ∷ behind)))) .numbers .answer ≡ 1) ↔ NoneAdmissible (searchOf r sequence)
-  series-tells-none before buffer behind room = Iff·trans (Claims.series-tells-none r sequence bytes right before buffer behind room) (empty-exactly (searchOf r sequence) in-search)
+  series-tells-none before buffer behind room = Iff·trans (Claims.series-tells-none r sequence bytes right before buffer behind room) listing-empty
 
 -- On a refused request each call of a series gives the refusal, and leaves its buffer.
 pub series-replies : (r : Request) → Bytes (r .profile) → (calls : List Call) → run r [] calls ≡ replies r calls
