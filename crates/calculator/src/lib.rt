@@ -5,10 +5,9 @@ use call_numbers::tell_write;
 use list_reader::read::read_include;
 use list_writer::writer::write_list;
 use model::DomainIndex;
-use model::NodeAddress;
 use model::ProfileAnswer;
 use profile_check::check_profile;
-use request::limits::limits_of;
+use request::limits::asked_of;
 use tree_fields::tree_numbers;
 ghost use mathlib.Core.Path.{_≡_};
 ghost use lib.ListN.{length};
@@ -99,15 +98,19 @@ pub extern "C" fn yq_tree(
 ) -> u32
     ensures { λ r. ⌜ TreeExport (buildTree (requestOf (now (profile .entry)) ingress source destination (now (include .entry)) (now (exclude .entry)) (limitsOfBits «bandwidth_bits» «bound_counts» «bound_bits»)) (least4 (now (level .entry)) (now (address .entry)) (now (reachable .entry)) (now (cost .entry)))) (now (level .entry)) (now (address .entry)) (now (reachable .entry)) (now (cost .entry)) r (now (numbers .exit)) (now (level .exit)) (now (address .exit)) (now (reachable .exit)) (now (cost .exit)) ⌝ }
 {
-    let limits = limits_of(bandwidth_bits, bound_counts, bound_bits);
+    let asked = asked_of(
+        ingress,
+        source,
+        destination,
+        bandwidth_bits,
+        bound_counts,
+        bound_bits,
+    );
     let answer = tree_numbers(
         profile,
-        DomainIndex(ingress),
-        NodeAddress(source),
-        NodeAddress(destination),
+        asked,
         include,
         exclude,
-        limits,
         level,
         address,
         reachable,

@@ -1,12 +1,10 @@
 // First, next and the series under C names.
-use model::DomainIndex;
-use model::NodeAddress;
 use path_answers::numbers::tell;
 use path_calls::first;
 use path_calls::next;
 use path_series::SeriesAnswer;
 use path_series::run;
-use request::limits::limits_of;
+use request::limits::asked_of;
 ghost use lib.ListN.{length};
 ghost use Rattle.model.specs.Calls as Calls;
 ghost use Rattle.request.specs.Bits.{limitsOfBits};
@@ -30,17 +28,15 @@ pub extern "C" fn yq_first(
 ) -> u32
     ensures { λ r. ⌜ PathExport (Calls.first (requestOf (now (profile .entry)) ingress source destination (now (include .entry)) (now (exclude .entry)) (limitsOfBits «bandwidth_bits» «bound_counts» «bound_bits»)) (length (now (path .entry)))) (now (path .entry)) r (now (numbers .exit)) (now (path .exit)) ⌝ }
 {
-    let limits = limits_of(bandwidth_bits, bound_counts, bound_bits);
-    let answer = first(
-        profile,
-        DomainIndex(ingress),
-        NodeAddress(source),
-        NodeAddress(destination),
-        include,
-        exclude,
-        limits,
-        path,
+    let asked = asked_of(
+        ingress,
+        source,
+        destination,
+        bandwidth_bits,
+        bound_counts,
+        bound_bits,
     );
+    let answer = first(profile, asked, include, exclude, path);
     tell(answer, numbers)
 }
 
@@ -62,18 +58,15 @@ pub extern "C" fn yq_next(
 ) -> u32
     ensures { λ r. ⌜ PathExport (Calls.next (requestOf (now (profile .entry)) ingress source destination (now (include .entry)) (now (exclude .entry)) (limitsOfBits «bandwidth_bits» «bound_counts» «bound_bits»)) (now (given .entry)) (length (now (path .entry)))) (now (path .entry)) r (now (numbers .exit)) (now (path .exit)) ⌝ }
 {
-    let limits = limits_of(bandwidth_bits, bound_counts, bound_bits);
-    let answer = next(
-        profile,
-        DomainIndex(ingress),
-        NodeAddress(source),
-        NodeAddress(destination),
-        include,
-        exclude,
-        limits,
-        given,
-        path,
+    let asked = asked_of(
+        ingress,
+        source,
+        destination,
+        bandwidth_bits,
+        bound_counts,
+        bound_bits,
     );
+    let answer = next(profile, asked, include, exclude, given, path);
     tell(answer, numbers)
 }
 
@@ -96,15 +89,19 @@ pub extern "C" fn yq_series(
 ) -> u32
     ensures { λ r. ⌜ SeriesExport (requestOf (now (profile .entry)) ingress source destination (now (include .entry)) (now (exclude .entry)) (limitsOfBits «bandwidth_bits» «bound_counts» «bound_bits»)) (now (kinds .entry)) (now (sizes .entry)) (now (buffers .entry)) (now (numbers .entry)) r (now (buffers .exit)) (now (numbers .exit)) ⌝ }
 {
-    let limits = limits_of(bandwidth_bits, bound_counts, bound_bits);
+    let asked = asked_of(
+        ingress,
+        source,
+        destination,
+        bandwidth_bits,
+        bound_counts,
+        bound_bits,
+    );
     let answer = run(
         profile,
-        DomainIndex(ingress),
-        NodeAddress(source),
-        NodeAddress(destination),
+        asked,
         include,
         exclude,
-        limits,
         kinds,
         sizes,
         buffers,

@@ -13,7 +13,7 @@ use Rattle.model.specs.declared.Verdict.the-variants.{Pass}
 use Rattle.model.specs.Bytes.{number, allZero}
 use Rattle.model.specs.Verdict.{refuseIf, _andThen_, inTurn}
 use Rattle.model.specs.Reserved.{asRanges, addressRanges, misplaced}
-use Rattle.model.specs.Profile.{Layout, classOf, domainCount, hopCount, domainStart, hopStart, bandwidthBits, headerWrong, countsWrong, lengthWrong, headerVerdict, domainAt, areaLengthFits, domainMalformed, domainMisordered, domainVerdict, hopAt, hopMalformed, hopMisordered, hopVerdict, crowded, crowdedVerdict, profileVerdict}
+use Rattle.model.specs.Profile.{Layout, classOf, domainCount, hopCount, domainStart, hopStart, bandwidthBits, headerWrong, countsWrong, lengthWrong, headerVerdict, domainAt, areaLengthFits, domainMalformed, domainMisordered, domainVerdict, otherCost, hopAt, hopMalformed, hopMisordered, hopVerdict, crowded, crowdedVerdict, profileVerdict}
 use Rattle.laws.proofs.Tests.{or-neither, neither-or}
 use Rattle.laws.proofs.Turns.{refuseIf-pass, andThen-refuseIf, andThen-pass, inTurn-pass-all}
 
@@ -25,11 +25,12 @@ pub record AcceptedDomain (s : List ℕ) (i : ℕ) : Type 0 where
   pub ordered : domainMisordered s i ≡ false
   pub asPlaced : misplaced (classOf s) asRanges ((domainAt s i) .asn) ≡ false
 
--- hop record i: its domains exist, cost and bandwidth are in range; its order and nodes are right; its pair has at most 16 entry nodes up to here
+-- hop record i: its domains exist, both costs and the bandwidth are in range; its order and nodes are right; its pair has at most 16 entry nodes up to here
 pub record AcceptedHop (L : Layout) (s : List ℕ) (i : ℕ) : Type 0 where
   pub fromExists : (hopAt L s i) .from .0 < domainCount s
   pub toExists : (hopAt L s i) .to .0 < domainCount s
   pub costInRange : (hopAt L s i) .cost ≤ L .mostCost
+  pub otherInRange : otherCost L s i ≤ L .mostCost
   pub bandwidthInRange : bandwidthBits L s i < 0x7f800000
   pub ordered : hopMisordered L s i ≡ false
   pub tailPlaced : misplaced (classOf s) addressRanges ((hopAt L s i) .tail .0) ≡ false
@@ -39,7 +40,7 @@ pub record AcceptedHop (L : Layout) (s : List ℕ) (i : ℕ) : Type 0 where
 pub record AcceptedProfile (L : Layout) (s : List ℕ) : Type 0 where
   pub hasHeader : 12 ≤ length s
   pub mark : number 3 s 0 ≡ 0x445350
-  pub version : number 2 s 3 ≡ 1
+  pub version : number 2 s 3 ≡ L .version
   pub headerZeros : number 2 s 10 ≡ 0
   pub classInRange : classOf s ≤ 1
   pub someDomain : 1 ≤ domainCount s
@@ -73,6 +74,12 @@ four-or a b c d = (
   λ e. neither-or (a || b || c) d (three-or a b c .1 (e .0, e .1, e .2)) (e .3),
 )
 
+five-or : (a b c d e : Bool) → (a || b || c || d || e ≡ false) ↔ ((a ≡ false) × (b ≡ false) × (c ≡ false) × (d ≡ false) × (e ≡ false))
+five-or a b c d e = (
+  λ p. let x = or-neither (a || b || c || d) e p in let y = four-or a b c d .0 (x .0) in (y .0, y .1, y .2, y .3, x .1),
+  λ p. neither-or (a || b || c || d) e (four-or a b c d .1 (p .0, p .1, p .2, p .3)) (p .4),
+)
+
 domain-passes : (s : List ℕ) (i : ℕ) → (domainVerdict s i ≡ Pass) ↔ AcceptedDomain s i
 unfolding domainVerdict domainMalformed
 domain-passes s i = (
@@ -91,14 +98,14 @@ domain-passes s i = (
 
 header-passes
     : (L : Layout) (s : List ℕ)
-    → (headerVerdict L s ≡ Pass) ↔ ((ltb (length s) 12 ≡ false) × (headerWrong s ≡ false) × (countsWrong L s ≡ false) × (lengthWrong L s ≡ false))
+    → (headerVerdict L s ≡ Pass) ↔ ((ltb (length s) 12 ≡ false) × (headerWrong L s ≡ false) × (countsWrong L s ≡ false) × (lengthWrong L s ≡ false))
 unfolding headerVerdict
 header-passes L s = (
   λ e.
       let d = andThen-refuseIf _ (lengthWrong L s) 13 0 .0 e in
-      let c = three-tests (ltb (length s) 12) (headerWrong s) (countsWrong L s) 10 11 12 0 .0 (d .0) in
+      let c = three-tests (ltb (length s) 12) (headerWrong L s) (countsWrong L s) 10 11 12 0 .0 (d .0) in
       (c .0, c .1, c .2, d .1),
-  λ e. andThen-refuseIf _ (lengthWrong L s) 13 0 .1 (three-tests (ltb (length s) 12) (headerWrong s) (countsWrong L s) 10 11 12 0 .1 (e .0, e .1, e .2), e .3),
+  λ e. andThen-refuseIf _ (lengthWrong L s) 13 0 .1 (three-tests (ltb (length s) 12) (headerWrong L s) (countsWrong L s) 10 11 12 0 .1 (e .0, e .1, e .2), e .3),
 )
 
 hop-passes : (L : Layout) (s : List ℕ) (i : ℕ) → ((hopVerdict L s i ≡ Pass) × (crowdedVerdict L s i ≡ Pass)) ↔ AcceptedHop L s i
@@ -106,13 +113,14 @@ unfolding hopVerdict hopMalformed crowdedVerdict
 hop-passes L s i = (
   λ e.
       let x = three-tests (hopMalformed L s i) (hopMisordered L s i) _ 17 18 16 (domainCount s + i) .0 (e .0) in
-      let y = four-or _ _ _ _ .0 (x .0) in
+      let y = five-or _ _ _ _ _ .0 (x .0) in
       let z = or-neither _ _ (x .2) in
       record {
         fromExists = leb-false _ _ (y .0);
         toExists = leb-false _ _ (y .1);
         costInRange = ltb-false _ _ (y .2);
-        bandwidthInRange = leb-false _ _ (y .3);
+        otherInRange = ltb-false _ _ (y .3);
+        bandwidthInRange = leb-false _ _ (y .4);
         ordered = x .1;
         tailPlaced = z .0;
         headPlaced = z .1;
@@ -120,7 +128,7 @@ hop-passes L s i = (
       },
   λ a. (
     three-tests _ _ _ _ _ _ _ .1
-        (four-or _ _ _ _ .1 (lt-leb _ _ (a .fromExists), lt-leb _ _ (a .toExists), le-ltb _ _ (a .costInRange), lt-leb _ _ (a .bandwidthInRange)), a .ordered, neither-or _ _ (a .tailPlaced) (a .headPlaced)),
+        (five-or _ _ _ _ _ .1 (lt-leb _ _ (a .fromExists), lt-leb _ _ (a .toExists), le-ltb _ _ (a .costInRange), le-ltb _ _ (a .otherInRange), lt-leb _ _ (a .bandwidthInRange)), a .ordered, neither-or _ _ (a .tailPlaced) (a .headPlaced)),
     refuseIf-pass (crowded L s i) 19 (domainCount s + i) .1 (a .uncrowded),
   ),
 )

@@ -13,6 +13,7 @@ use Rattle.model.specs.Sequence.{Stop}
 use Rattle.model.specs.Request.{Request, layoutFor, Accepted, searchIn}
 use Rattle.model.specs.Rounds.{roundOf, searchOf}
 use Rattle.laws.proofs.Lists.{map-mem, countFrom-mem}
+use Rattle.laws.proofs.Layouts.{cost-limited}
 use Rattle.laws.proofs.Accepted.{accepted}
 use Rattle.laws.proofs.HopKeys.{SortedHops}
 use Rattle.laws.proofs.AcceptedRequest.{accepted-profile, accepted-length}
@@ -35,7 +36,7 @@ pub accepted-paths-in
 unfolding searchIn
 accepted-paths-in x r sequence e s =
     paths-are-the-paths (searchIn x r sequence) s ((accepted-length r sequence e) .1)
-    (accepted-costs (layoutFor r) (r .profile) (accepted-profile r sequence e))
+    (λ h m. omega (arith, accepted-costs (layoutFor r) (r .profile) (accepted-profile r sequence e) h m, cost-limited (r .profile)))
 
 -- and so in the one that applies
 pub accepted-paths

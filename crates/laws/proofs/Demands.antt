@@ -10,10 +10,10 @@ use mathlib.Core.Option.{none}
 use lib.ListN.{length, getD}
 use Rattle.model.specs.declared.Round.{Round}
 use Rattle.model.specs.declared.Verdict.the-variants.{Pass}
-use Rattle.model.specs.Profile.{Layout, version1, profileVerdict, domainCount, domains, hops}
-use Rattle.model.specs.Sequence.{Stop, good, domainsOf}
+use Rattle.model.specs.Profile.{Layout, profileVerdict, domainCount, domains, hops, verdictOn}
+use Rattle.model.specs.Sequence.{Stop, stopWith, good, domainsOf}
 use Rattle.model.specs.WrittenList.{stops, written, unwritable}
-use Rattle.model.specs.Request.{Request, layoutFor, searchIn, Accepted}
+use Rattle.model.specs.Request.{Request, layoutFor, readingInput, searchIn, Accepted}
 use Rattle.model.specs.Path.{noStop, shortestPaths}
 use Rattle.model.specs.Rounds.{roundOf, searchOf}
 use Rattle.model.specs.Calls.{pathLength, readingOf, buildTree, first, next}
@@ -58,7 +58,7 @@ pub reads-back
     : (profile indexes marks nodes : List ℕ)
     → ((i : ℕ) → getD profile i 0 < 256)
     → ((i : ℕ) → getD nodes i 0 < 2 ^ 32)
-    → profileVerdict version1 profile ≡ Pass
+    → verdictOn profile ≡ Pass
     → unwritable (domains profile) indexes marks nodes ≡ false
     → readingOf profile (getD indexes 0 0) (written (domains profile) (stops indexes marks nodes)) ≡ good (stops indexes marks nodes)
 reads-back = Lists.reads-back
@@ -66,7 +66,7 @@ reads-back = Lists.reads-back
 -- What is read: 1 to 16 domains of the profile, the ingress domain first and without entry constraint, none twice.
 pub record SequenceRight (r : Request) (sequence : List Stop) : Type 0 where
   pub count : (1 ≤ length sequence) × (length sequence ≤ 16)
-  pub first : getD sequence 0 noStop ≡ record { domain = r .ingress; pin = none }
+  pub first : getD sequence 0 noStop ≡ stopWith (r .ingress) []
   pub known : (p : Stop) → List·Memᴰ p sequence → p .domain < domainCount (r .profile)
   pub once : (i j : ℕ) → i < j → j < length (domainsOf sequence) → getD (domainsOf sequence) i 0 ≡ getD (domainsOf sequence) j 0 → ⊥
 
@@ -81,13 +81,13 @@ module _ (r : Request) (sequence : List Stop) (bytes : Bytes (r .profile)) (righ
   pub sequence-right : SequenceRight r sequence
   sequence-right =
       let m = accepted-meaning r sequence right in
-      let ds = domains (r .profile) in
+      let R = readingInput (r .profile) in
       let inside = subst (λ (n : ℕ). r .ingress < n) (sym (length-domains (r .profile))) ((passed-request r (accepted-verdict r sequence right)) .ingress) in
       record {
         count = accepted-length r sequence right;
-        first = meaning-first ds (r .ingress) (r .include) sequence m;
-        known = λ p n. subst (λ (k : ℕ). p .domain < k) (length-domains (r .profile)) (meaning-inside ds (r .ingress) (r .include) sequence m inside p n);
-        once = different-places (domainsOf sequence) (meaning-different ds (r .ingress) (r .include) sequence m);
+        first = meaning-first R (r .ingress) (r .include) sequence m;
+        known = λ p n. subst (λ (k : ℕ). p .domain < k) (length-domains (r .profile)) (meaning-inside R (r .ingress) (r .include) sequence m inside p n);
+        once = different-places (domainsOf sequence) (meaning-different R (r .ingress) (r .include) sequence m);
       }
 
   -- In the backward tree each entry node carries the least total cost to the destination across the remaining domains, keeping exclusions, bandwidth and entry constraints,

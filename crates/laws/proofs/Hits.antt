@@ -16,7 +16,7 @@ use Rattle.model.specs.Subobject.{Named, Subobject}
 use Rattle.model.specs.Sequence.{Stop, noDomain, domainOf}
 use Rattle.model.specs.Exclusion.{someDesired, takesDomain, takesNode, excludedDomain, excludedNode}
 use Rattle.model.specs.Request.{Search}
-use Rattle.model.specs.Path.{Leg, legs, legAt, noStop, stopAt, keepsPin, keepsBound, placeAllows, allowed, Route, extended, hopsFrom, routesIf, suffixes, paths, admissible, cheapest, shortestPaths}
+use Rattle.model.specs.Path.{Leg, legs, legAt, noStop, stopAt, keepsPin, keepsBound, exclusionsAt, placeAllows, allowed, Route, extended, hopsFrom, routesIf, suffixes, paths, admissible, cheapest, shortestPaths}
 use Rattle.model.specs.Tree.{entriesAt, suffixesAt, entry, tree, tally}
 use Rattle.laws.proofs.Tests.{or-left, or-right, clash, refuted}
 use Rattle.laws.proofs.Lists.{mem-any, countFrom-mem}
@@ -141,6 +141,7 @@ module _
     (S : Search) (inside : (p : Stop) → List·Memᴰ p (S .sequence) → p .domain < length (S .domains))
     (xs ys : List Subobject) (same : hitting (S .domains) (S .hops) xs ≡ hitting (S .domains) (S .hops) ys) where
   place-alike : (i a : ℕ) (b : Bool) → ltb i (length (S .sequence)) ≡ b → placeAllows b (excluding S xs) i a ≡ placeAllows b (excluding S ys) i a
+  unfolding exclusionsAt
   place-alike i a true e =
       ap (λ (c : Bool). not c && keepsPin ((stopAt S i) .pin) a)
       (domain-alike (S .domains) (S .hops) xs ys same (domainOf (S .domains) ((stopAt S i) .domain))
@@ -148,7 +149,7 @@ module _
   place-alike i a false e = refl
 
   allowed-alike : (i a : ℕ) → Recorded (S .hops) a → allowed (excluding S xs) i a ≡ allowed (excluding S ys) i a
-  unfolding allowed
+  unfolding exclusionsAt allowed
   allowed-alike i a m =
       ap₂ (λ (b c : Bool). not b && c) (node-alike (S .domains) (S .hops) xs ys same a m) (place-alike i a (ltb i (length (S .sequence))) refl)
 

@@ -4,7 +4,7 @@ use mathlib.Core.Path.{_≡_, refl, sym, subst, ap, ap₂, _∙_}
 use mathlib.Core.Logic.{⊎-elim}
 use mathlib.Core.Bool.{Bool, true, false, cond, _||_, or-false}
 use mathlib.Core.List.{List, [], _∷_, _++_, map, List·Memᴰ, List·Memᴰ·head, List·Memᴰ·tail}
-use Prim.Native.Nat.{ℕ, zero, suc, _+_, _*_, _%_, _≤_}
+use Prim.Native.Nat.{ℕ, zero, suc, _+_, _-_, _*_, _%_, _≤_, _<_}
 use native.Mathlib.Nat.{zero-add, add-zero, suc-add, add-assoc}
 use native.Mathlib.Omega.{arith}
 use lib.ListN.{length, getD, take, drop, length-append, length-drop, take-append-drop, List·getD-append}
@@ -17,38 +17,40 @@ use Rattle.model.specs.declared.Verdict.the-variants.{Pass}
 use Rattle.model.specs.declared.ListKind.{ListKind}
 use Rattle.model.specs.Lists.{any, keep}
 use Rattle.model.specs.Bytes.{number, part}
+use Rattle.model.specs.Along.{checkedAlong, placesAlong}
 use Rattle.model.specs.Exclusion.{someDesired}
-use Rattle.model.specs.Subobject.{Named, prefix, system, area, Subobject, roundedUp, lengthFits, topAt, typeAt, lengthAt, areaLengthAt, subobjectVerdict, namedAt, subobjectAt, formFrom, formVerdict, subobjectsFrom, subobjects}
+use Rattle.model.specs.Subobject.{Named, prefix, system, area, Subobject, roundedUp, lengthFits, topAt, typeAt, lengthAt, areaLengthAt, subobjectVerdict, namedAt, subobjectAt, afterSubobject, formVerdict, subobjects}
 use Rattle.laws.proofs.Tests.{decide}
 use Rattle.laws.proofs.Lists.{keep-none, keep-append, map-mem}
 use Rattle.laws.proofs.Numbers.{number-alike}
 use Rattle.laws.proofs.Turns.{andThen-pass}
-use Rattle.laws.proofs.Walk.{Right, right-subobject, form-step, subobjects-step, subobjects-end, subobjectsFrom-fuel}
+use Rattle.laws.proofs.Along.{places-step, no-places, check-step, places-whole}
+use Rattle.laws.proofs.Walk.{Right, right-subobject, further}
 use Rattle.laws.proofs.Subobjects.{named-shift}
 use Rattle.laws.proofs.Hits.{hits, unplaced, hitting, desired-unplaced}
 
 -- ---- a subobject looks at its own bytes alone
 
 -- the length of a type that has an own one
-module _ (a n : ℕ) where
+module _ (k : ListKind) (a n : ℕ) where
   fitted : (m : ℕ) → (eqb n m || false) ≡ true → n ≡ m
   fitted m h = eqb-true n m (sym (or-false (eqb n m)) ∙ h)
 
-  fits-1 : (t : ℕ) → lengthFits t a n ≡ true → t ≡ 1 → n ≡ 8
+  fits-1 : (t : ℕ) → lengthFits k t a n ≡ true → t ≡ 1 → n ≡ 8
   unfolding lengthFits any
-  fits-1 t h e = let l = fitted (8 + 0 * roundedUp a) (subst (λ (u : ℕ). lengthFits u a n ≡ true) e h) in omega arith
+  fits-1 t h e = let l = fitted (8 + 0 * roundedUp a) (subst (λ (u : ℕ). lengthFits k u a n ≡ true) e h) in omega arith
 
-  fits-5 : (t : ℕ) → lengthFits t a n ≡ true → t ≡ 5 → n ≡ 8
+  fits-5 : (t : ℕ) → lengthFits k t a n ≡ true → t ≡ 5 → n ≡ 8
   unfolding lengthFits any
-  fits-5 t h e = let l = fitted (8 + 0 * roundedUp a) (subst (λ (u : ℕ). lengthFits u a n ≡ true) e h) in omega arith
+  fits-5 t h e = let l = fitted (8 + 0 * roundedUp a) (subst (λ (u : ℕ). lengthFits k u a n ≡ true) e h) in omega arith
 
-  fits-6 : (t : ℕ) → lengthFits t a n ≡ true → t ≡ 6 → n ≡ 8
+  fits-6 : (t : ℕ) → lengthFits k t a n ≡ true → t ≡ 6 → n ≡ 8
   unfolding lengthFits any
-  fits-6 t h e = let l = fitted (8 + 0 * roundedUp a) (subst (λ (u : ℕ). lengthFits u a n ≡ true) e h) in omega arith
+  fits-6 t h e = let l = fitted (8 + 0 * roundedUp a) (subst (λ (u : ℕ). lengthFits k u a n ≡ true) e h) in omega arith
 
-  fits-7 : (t : ℕ) → lengthFits t a n ≡ true → t ≡ 7 → 4 + a ≤ n
+  fits-7 : (t : ℕ) → lengthFits k t a n ≡ true → t ≡ 7 → 4 + a ≤ n
   unfolding lengthFits any
-  fits-7 t h e = let l = fitted (4 + 1 * roundedUp a) (subst (λ (u : ℕ). lengthFits u a n ≡ true) e h) in omega arith
+  fits-7 t h e = let l = fitted (4 + 1 * roundedUp a) (subst (λ (u : ℕ). lengthFits k u a n ≡ true) e h) in omega arith
 
 -- what a subobject of a type and area length names
 abbrev namedBy : ℕ → ℕ → List ℕ → ℕ → Named
@@ -72,7 +74,7 @@ module _ (xs ys : List ℕ) where
       ap (take n) (drop-append-le at xs ys (omega arith))
       ∙ take-append-le n (drop at xs) ys (omega (arith, length-drop at xs))
 
-  module _ (at : ℕ) (r : Right xs at) where
+  module _ (k : ListKind) (at : ℕ) (r : Right k xs (length xs) at) where
     top-front : topAt (xs ++ ys) at ≡ topAt xs at
     top-front = ap (leb 128) (List·getD-append xs ys 0 at (omega arith))
 
@@ -88,21 +90,32 @@ module _ (xs ys : List ℕ) where
         ap₂ (λ (b c : ℕ). namedBy (b % 128) c (xs ++ ys) at) (List·getD-append xs ys 0 at (omega arith)) (List·getD-append xs ys 0 (at + 2) (omega arith))
         ∙ cond-alike (eqb t 1) _ _ _ _
         (λ e.
-        let l = fits-1 a n t (r .fits) (eqb-true t 1 e) in
+        let l = fits-1 k a n t (r .fits) (eqb-true t 1 e) in
         ap₂ prefix (number-front 4 (at + 2) (omega arith)) (List·getD-append xs ys 0 (at + 6) (omega arith)))
-        (cond-alike (eqb t 5) _ _ _ _ (λ e. let l = fits-5 a n t (r .fits) (eqb-true t 5 e) in ap system (number-front 4 (at + 4) (omega arith)))
+        (cond-alike (eqb t 5) _ _ _ _ (λ e. let l = fits-5 k a n t (r .fits) (eqb-true t 5 e) in ap system (number-front 4 (at + 4) (omega arith)))
         (cond-alike (eqb t 6) _ _ _ _
         (λ e.
-        let l = fits-6 a n t (r .fits) (eqb-true t 6 e) in
+        let l = fits-6 k a n t (r .fits) (eqb-true t 6 e) in
         ap (λ (b : List ℕ). area (record { kind = 1; bytes = b })) (part-front (at + 4) 4 (omega arith)))
         (cond-alike (eqb t 7) _ _ _ _
         (λ e.
-        let l = fits-7 a n t (r .fits) (eqb-true t 7 e) in
+        let l = fits-7 k a n t (r .fits) (eqb-true t 7 e) in
         ap (λ (b : List ℕ). area (record { kind = 2; bytes = b })) (part-front (at + 4) a (omega arith)))
         (ap system (number-front 2 (at + 2) (omega arith))))))
 
     itself : unplaced (subobjectAt (xs ++ ys) at) ≡ unplaced (subobjectAt xs at)
     itself = λ i. record { offset = 0; top = top-front i; names = named-front i }
+
+-- ---- the subobjects of a list from an offset on, read with some fuel
+
+abbrev readAlong : ℕ → List ℕ → ℕ → List Subobject
+readAlong fuel s at = map (subobjectAt s) (placesAlong fuel (afterSubobject s) (length s) at)
+
+subobjects-step : (s : List ℕ) (at fuel : ℕ) → at < length s → readAlong (suc fuel) s at ≡ subobjectAt s at ∷ readAlong fuel s (afterSubobject s at)
+subobjects-step s at fuel h = ap (map (subobjectAt s)) (places-step (afterSubobject s) (length s) at fuel h)
+
+subobjects-end : (fuel : ℕ) (s : List ℕ) (at : ℕ) → length s ≤ at → readAlong fuel s at ≡ []
+subobjects-end fuel s at h = ap (map (subobjectAt s)) (no-places (afterSubobject s) (length s) fuel at h)
 
 -- ---- what is behind another list
 
@@ -126,8 +139,8 @@ module _ (pre s : List ℕ) where
       ap (λ (i : ℕ). getD (pre ++ s) i 0) (add-assoc (length pre) at 1) ∙ getD-append-add pre s (at + 1) 0 in
       omega arith
 
-  moved : (fuel at : ℕ) → map unplaced (subobjectsFrom fuel (pre ++ s) (length pre + at)) ≡ map unplaced (subobjectsFrom fuel s at)
-  unfolding subobjectsFrom
+  moved : (fuel at : ℕ) → map unplaced (readAlong fuel (pre ++ s) (length pre + at)) ≡ map unplaced (readAlong fuel s at)
+  unfolding placesAlong
   moved zero at = refl
   moved (suc fuel) at =
       ⊎-elim
@@ -136,7 +149,7 @@ module _ (pre s : List ℕ) where
       ap (map unplaced) (subobjects-step (pre ++ s) (length pre + at) fuel (omega (arith, length-append pre s)))
       ∙ ap₂ {C = List Subobject} (λ (x : Subobject) (rest : List Subobject). x ∷ rest)
       (moved-at at (omega arith))
-      (ap (λ (o : ℕ). map unplaced (subobjectsFrom fuel (pre ++ s) o)) (moved-next at) ∙ moved fuel (at + lengthAt s at))
+      (ap (λ (o : ℕ). map unplaced (readAlong fuel (pre ++ s) o)) (moved-next at) ∙ moved fuel (at + lengthAt s at))
       ∙ sym (ap (map unplaced) (subobjects-step s at fuel l)))
       (λ (f : ltb at (length s) ≡ false).
       let l = ltb-false at (length s) f in
@@ -149,37 +162,37 @@ module _ (pre s : List ℕ) where
 module _ (k : ListKind) (xs ys : List ℕ) (more : ℕ) where
   -- what is behind, read with the fuel that is left
   abbrev behind : List Subobject
-  behind = map unplaced (subobjectsFrom more ys 0)
+  behind = map unplaced (readAlong more ys 0)
 
   -- from an offset on: these subobjects, and then those behind
   abbrev Front : ℕ → List Subobject → Type 0
-  Front at subs = map unplaced (subobjectsFrom (length subs + more) (xs ++ ys) at) ≡ map unplaced subs ++ behind
+  Front at subs = map unplaced (readAlong (length subs + more) (xs ++ ys) at) ≡ map unplaced subs ++ behind
 
   front-end : (at : ℕ) → at ≡ length xs → Front at []
   front-end at e =
-      ap₂ (λ (n o : ℕ). map unplaced (subobjectsFrom n (xs ++ ys) o)) (zero-add more) (e ∙ sym (add-zero (length xs))) ∙ moved xs ys more 0
+      ap₂ (λ (n o : ℕ). map unplaced (readAlong n (xs ++ ys) o)) (zero-add more) (e ∙ sym (add-zero (length xs))) ∙ moved xs ys more 0
 
   front-step
-      : (at : ℕ) (subs : List Subobject) → Right xs at
+      : (at : ℕ) (subs : List Subobject) → Right k xs (length xs) at
       → Front (at + lengthAt xs at) subs
       → Front at (subobjectAt xs at ∷ subs)
   front-step at subs r later =
-      ap (λ (n : ℕ). map unplaced (subobjectsFrom n (xs ++ ys) at)) (suc-add (length subs) more)
+      ap (λ (n : ℕ). map unplaced (readAlong n (xs ++ ys) at)) (suc-add (length subs) more)
       ∙ ap (map unplaced) (subobjects-step (xs ++ ys) at (length subs + more) (omega (arith, length-append xs ys)))
       ∙ ap₂ {C = List Subobject} (λ (x : Subobject) (rest : List Subobject). x ∷ rest)
-      (itself xs ys at r)
-      (ap (λ (n : ℕ). map unplaced (subobjectsFrom (length subs + more) (xs ++ ys) (at + n))) (length-front xs ys at r) ∙ later)
+      (itself xs ys k at r)
+      (ap (λ (n : ℕ). map unplaced (readAlong (length subs + more) (xs ++ ys) (at + n))) (length-front xs ys k at r) ∙ later)
 
-  front : (fuel at : ℕ) → at ≤ length xs → length xs ≤ at + fuel → formFrom fuel k xs at ≡ Pass → Front at (subobjectsFrom fuel xs at)
+  front : (fuel at : ℕ) → at ≤ length xs → length xs ≤ at + fuel → checkedAlong fuel (subobjectVerdict k xs (length xs)) (afterSubobject xs) (length xs) at ≡ Pass → Front at (readAlong fuel xs at)
   front zero at low high right = subst (Front at) (sym (subobjects-end zero xs at (omega arith))) (front-end at (omega arith))
   front (suc fuel) at low high right =
       ⊎-elim
       (λ (t : ltb at (length xs) ≡ true).
       let l = ltb-true at (length xs) t in
-      let both = andThen-pass (subobjectVerdict k xs at) (formFrom fuel k xs (at + lengthAt xs at)) .0 (sym (form-step k xs at fuel l) ∙ right) in
-      let r = right-subobject k xs at (both .0) in
+      let both = andThen-pass (subobjectVerdict k xs (length xs) at) _ .0 (sym (check-step (afterSubobject xs) (length xs) (subobjectVerdict k xs (length xs)) at fuel l) ∙ right) in
+      let r = right-subobject k xs (length xs) at (both .0) in
       subst (Front at) (sym (subobjects-step xs at fuel l))
-      (front-step at (subobjectsFrom fuel xs (at + lengthAt xs at)) r (front fuel (at + lengthAt xs at) (r .whole) (omega arith) (both .1))))
+      (front-step at (readAlong fuel xs (at + lengthAt xs at)) r (front fuel (at + lengthAt xs at) (r .whole) (omega arith) (both .1))))
       (λ (f : ltb at (length xs) ≡ false).
       let l = ltb-false at (length xs) f in
       subst (Front at) (sym (subobjects-end (suc fuel) xs at l)) (front-end at (omega arith)))
@@ -188,14 +201,15 @@ module _ (k : ListKind) (xs ys : List ℕ) (more : ℕ) where
   -- the whole list
   front-whole : formVerdict k xs ≡ Pass → Front 0 (subobjects xs)
   unfolding formVerdict subobjects
-  front-whole right = front (length xs) 0 (omega arith) (omega arith) right
+  front-whole right = front (length xs - 0) 0 (omega arith) (omega arith) right
 
 -- ---- exclusions put into a list
 
 -- fuel for all of a list of right form
-enough : (k : ListKind) (s : List ℕ) (n : ℕ) → formVerdict k s ≡ Pass → length s ≤ n → subobjects s ≡ subobjectsFrom n s 0
+enough : (k : ListKind) (s : List ℕ) (n : ℕ) → formVerdict k s ≡ Pass → length s ≤ n → subobjects s ≡ readAlong n s 0
 unfolding formVerdict subobjects
-enough k s n right h = subobjectsFrom-fuel (length s) n k s 0 (omega arith) (omega arith) right
+enough k s n right h =
+    ap (map (subobjectAt s)) (places-whole (afterSubobject s) (length s) (subobjectVerdict k s (length s)) (further k s (length s)) n 0 (omega arith) right)
 
 module _ {A : Type 0} (p : A → Bool) where
   keep-without : (xs ys zs : List A) → keep p ys ≡ [] → keep p (xs ++ (ys ++ zs)) ≡ keep p (xs ++ zs)
@@ -225,14 +239,14 @@ module _ (k : ListKind) (before some after : List ℕ) (in-list : Inserted k bef
 
   subobjects-with
       : map unplaced (subobjects (before ++ (some ++ after)))
-      ≡ map unplaced (subobjects before) ++ (map unplaced (subobjects some) ++ map unplaced (subobjectsFrom fuel after 0))
+      ≡ map unplaced (subobjects before) ++ (map unplaced (subobjects some) ++ map unplaced (readAlong fuel after 0))
   subobjects-with =
       ap (map unplaced)
       (enough k (before ++ (some ++ after)) (length (subobjects before) + (length (subobjects some) + fuel)) (in-list .right-with) (omega arith))
       ∙ front-whole k before (some ++ after) (length (subobjects some) + fuel) (in-list .right-before)
       ∙ ap {B = List Subobject} (λ (l : List Subobject). map unplaced (subobjects before) ++ l) (front-whole k some after fuel (in-list .right-some))
 
-  subobjects-without : map unplaced (subobjects (before ++ after)) ≡ map unplaced (subobjects before) ++ map unplaced (subobjectsFrom fuel after 0)
+  subobjects-without : map unplaced (subobjects (before ++ after)) ≡ map unplaced (subobjects before) ++ map unplaced (readAlong fuel after 0)
   subobjects-without =
       ap (map unplaced)
       (enough k (before ++ after) (length (subobjects before) + fuel) (in-list .right-without)
@@ -247,7 +261,7 @@ module _ (k : ListKind) (before some after : List ℕ) (in-list : Inserted k bef
   unfolding hitting hits
   inserted-lacking ds hs lacks =
       ap (keep (hits ds hs)) subobjects-with
-      ∙ keep-without (hits ds hs) (map unplaced (subobjects before)) (map unplaced (subobjects some)) (map unplaced (subobjectsFrom fuel after 0))
+      ∙ keep-without (hits ds hs) (map unplaced (subobjects before)) (map unplaced (subobjects some)) (map unplaced (readAlong fuel after 0))
       (keep-none (hits ds hs) (map unplaced (subobjects some))
       (λ s m. let q = map-mem unplaced (subobjects some) m in ap (hits ds hs) (q .2) ∙ lacks (q .0) (q .1)))
       ∙ sym (ap (keep (hits ds hs)) subobjects-without)
@@ -260,7 +274,7 @@ module _ (k : ListKind) (before some after : List ℕ) (in-list : Inserted k bef
   inserted-clear clear =
       sym (desired-unplaced (subobjects (before ++ (some ++ after))))
       ∙ ap someDesired subobjects-with
-      ∙ any-without (λ (s : Subobject). s .top) (map unplaced (subobjects before)) (map unplaced (subobjects some)) (map unplaced (subobjectsFrom fuel after 0))
+      ∙ any-without (λ (s : Subobject). s .top) (map unplaced (subobjects before)) (map unplaced (subobjects some)) (map unplaced (readAlong fuel after 0))
       (λ s m. let q = map-mem unplaced (subobjects some) m in ap (λ (x : Subobject). x .top) (q .2) ∙ clear (q .0) (q .1))
       ∙ sym (ap someDesired subobjects-without)
       ∙ desired-unplaced (subobjects (before ++ after))

@@ -18,7 +18,7 @@ use Rattle.model.specs.Profile.{domains, hops}
 use Rattle.model.specs.Subobject.{Subobject, formVerdict, subobjects}
 use Rattle.model.specs.Sequence.{Stop}
 use Rattle.model.specs.Exclusion.{inForce, someDesired}
-use Rattle.model.specs.Request.{Request, layoutFor, Accepted, searchIn}
+use Rattle.model.specs.Request.{Request, layoutFor, readingInput, allExclusions, Accepted, searchIn}
 use Rattle.model.specs.Path.{admissible, cheapest, shortestPaths}
 use Rattle.model.specs.Rounds.{roundIf, roundOf, searchOf}
 use Rattle.model.specs.Calls.{buildTree}
@@ -98,12 +98,12 @@ in-rounds
     → (x y : Round)
     → keep (countsIn x) (hitsOf r) ≡ keep (countsIn y) (hitsOf (withExclude r list))
     → SameFound (searchIn x r sequence) (searchIn y (withExclude r list) sequence)
-unfolding searchIn
+unfolding searchIn allExclusions
 in-rounds r list sequence accepted x y e =
     let ds = domains (r .profile) in
     let hs = hops (layoutFor r) (r .profile) in
     let low : r .ingress < length ds = omega (arith, passed-request r (accepted-verdict r sequence accepted) .ingress, length-domains (r .profile)) in
-    same-found (searchIn x r sequence) (meaning-inside ds (r .ingress) (r .include) sequence (accepted-meaning r sequence accepted) low)
+    same-found (searchIn x r sequence) (meaning-inside (readingInput (r .profile)) (r .ingress) (r .include) sequence (accepted-meaning r sequence accepted) low)
     (inForce x (subobjects (r .exclude)))
     (inForce y (subobjects list))
     (hitting-in-force ds hs x (subobjects (r .exclude)) ∙ e ∙ sym (hitting-in-force ds hs y (subobjects list)))
@@ -132,13 +132,13 @@ module _ (r : Request) (list : List ℕ) (sequence : List Stop) (accepted : Acce
   same-clear
       : someDesired (subobjects (r .exclude)) ≡ someDesired (subobjects list)
       → roundOf r sequence ≡ roundOf (withExclude r list) sequence
-  unfolding roundOf
+  unfolding roundOf allExclusions
   same-clear e = λ i. roundIf (e i && first-alike i)
 
   same-or-none
       : (roundOf r sequence ≡ roundOf (withExclude r list) sequence)
       ⊎ ((isEmpty (admissible (searchIn First r sequence)) ≡ true) × AllInForce)
-  unfolding roundOf
+  unfolding roundOf allExclusions
   same-or-none =
       go (someDesired (subobjects (r .exclude))) (someDesired (subobjects list)) (isEmpty (admissible (searchIn First r sequence)))
       (isEmpty (admissible (searchIn First (withExclude r list) sequence)))
@@ -162,7 +162,7 @@ module _ (r : Request) (list : List ℕ) (sequence : List Stop) (accepted : Acce
       go false true n false e e′ t q = inl refl
 
   same-round : SameRound r (withExclude r list) sequence
-  unfolding searchOf shortestPaths
+  unfolding searchOf shortestPaths allExclusions
   same-round =
       ⊎-elim
       (λ (e : roundOf r sequence ≡ roundOf (withExclude r list) sequence).
@@ -216,6 +216,7 @@ module _ (r r′ : Request) (sequence : List Stop) (accepted : Accepted r sequen
   pub lacking-clear
       : someDesired (subobjects (r .exclude)) ≡ someDesired (subobjects (r′ .exclude))
       → SameAnswers r r′ × ((room : ℕ) → buildTree r room ≡ buildTree r′ room)
+  unfolding allExclusions
   lacking-clear e = (same-answers r r′ sequence accepted accepted′ rounds, same-tree r r′ sequence accepted accepted′ rounds (rounds .clear e))
 
 -- ---- how the hypothesis comes about

@@ -13,7 +13,10 @@ pub mod FirstNextExact
 pub mod SeriesIsBook
 pub mod SeriesListing
 pub mod Turns
+pub mod Along
+pub mod Layouts
 pub mod Accepted
+pub mod EitherCost
 pub mod HopOrder
 pub mod EntryNodes
 pub mod ClassesApart
@@ -45,6 +48,7 @@ pub mod Cheapest
 pub mod Split
 pub mod NextSplit
 pub mod Numbers
+pub mod InARow
 pub mod Subobjects
 pub mod AreaLengths
 pub mod WrittenForm
@@ -67,3 +71,9 @@ pub mod Listing
 pub mod Quiet
 pub mod Answered
 pub mod Demands
+pub mod LaterLegs
+pub mod Rewritten
+pub mod OneCost
+pub mod OneCostTree
+pub mod OneCostAccepted
+pub mod OneCostRequest

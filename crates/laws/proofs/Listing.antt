@@ -11,8 +11,8 @@ use Rattle.model.specs.Lists.{isEmpty, below}
 use Rattle.model.specs.Profile.{domains, hops}
 use Rattle.model.specs.Sequence.{Stop}
 use Rattle.model.specs.Exclusion.{inForce}
-use Rattle.model.specs.Subobject.{Subobject, subobjects}
-use Rattle.model.specs.Request.{Request, layoutFor, Search, searchIn}
+use Rattle.model.specs.Subobject.{Subobject}
+use Rattle.model.specs.Request.{Request, layoutFor, Search, allExclusions, searchIn}
 use Rattle.model.specs.Path.{Admissible, total, Route, keepsBound, paths, admissible, shortestPaths}
 use Rattle.model.specs.Rounds.{roundOf, searchOf}
 use Rattle.laws.specs.Sorted.{Sorted}
@@ -100,10 +100,10 @@ module _ (r : Request) (sequence : List Stop) (sorted : SortedHops (hops (layout
   exact = round-exact r sequence sorted
 
   -- where every exclusion has X clear, both rounds look with the same
-  same-search : AllClear (subobjects (r .exclude)) → searchIn First r sequence ≡ searchIn Second r sequence
+  same-search : AllClear (allExclusions (r .exclude) sequence) → searchIn First r sequence ≡ searchIn Second r sequence
   unfolding searchIn inForce
   same-search clear =
-      let subs = subobjects (r .exclude) in
+      let subs = allExclusions (r .exclude) sequence in
       let all = keep-all (countsIn First) subs (λ s m. refl) ∙ sym (keep-all (countsIn Second) subs (λ s m. ap not (clear s m))) in
       ap
       (λ (xs : List Subobject).
@@ -123,7 +123,7 @@ module _ (r : Request) (sequence : List Stop) (sorted : SortedHops (hops (layout
   by-round First e none Second =
       ⊎-elim
       (λ (some : (p : List ℕ) × Admissible (searchIn First r sequence) p). absurd (none (some .0) (some .1)))
-      (λ (clear : AllClear (subobjects (r .exclude))). subst NoneAdmissible (same-search clear) none)
+      (λ (clear : AllClear (allExclusions (r .exclude) sequence)). subst NoneAdmissible (same-search clear) none)
       (exact .first .0 e)
   by-round Second e none First = exact .second .0 e .0
   by-round Second e none Second = none

@@ -12,7 +12,7 @@ use Rattle.model.specs.declared.Refusal.{Refusal}
 use Rattle.model.specs.declared.Round.{Round}
 use Rattle.model.specs.declared.Verdict.{Verdict}
 use Rattle.model.specs.declared.Verdict.the-variants.{Pass, Refuse}
-use Rattle.model.specs.Profile.{version1, profileVerdict, domains}
+use Rattle.model.specs.Profile.{layoutIn, domains, verdictOn}
 use Rattle.model.specs.Sequence.{Stop, Reading, refused, good}
 use Rattle.model.specs.WrittenList.{written, stops, unwritable}
 use Rattle.model.specs.Request.{Request, Search, sequenceOf}
@@ -131,11 +131,11 @@ pub all-quiet : AllQuiet
 unfolding checkProfile readInclude writeList buildTree first next
 all-quiet =
     record {
-      check-profile = λ profile. profile-by 35 at-most (profileVerdict version1 profile) (profile-refusing 35 at-most version1 profile);
+      check-profile = λ profile. profile-by 35 at-most (verdictOn profile) (profile-refusing 35 at-most (layoutIn profile) profile);
       read-include = λ profile ingress list there. reading-by 35 at-most (readingOf profile ingress list) there (reading-reads 35 at-most profile ingress list);
       write-list = λ profile indexes marks nodes there.
           let bytes = written (domains profile) (stops indexes marks nodes) in
-          write-by 35 at-most _ bytes (both 35 at-most (more 35 at-most (profile-refusing 35 at-most version1 profile) (unwritable (domains profile) indexes marks nodes) 35 0 (omega arith)) (room 35 at-most (length bytes) there));
+          write-by 35 at-most _ bytes (both 35 at-most (more 35 at-most (profile-refusing 35 at-most (layoutIn profile) profile) (unwritable (domains profile) indexes marks nodes) 35 0 (omega arith)) (room 35 at-most (length bytes) there));
       build-tree = λ r there. tree-of 35 at-most r (sequenceOf r) there (sequence-reads 35 at-most r);
       first-path = λ r there. first-from 35 at-most r (sequenceOf r) there (sequence-reads 35 at-most r);
       next-path = λ r given there. next-from 35 at-most r (sequenceOf r) given there (sequence-reads 35 at-most r);

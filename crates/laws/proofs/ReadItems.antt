@@ -12,7 +12,7 @@ use borrow.Author.Tests.{eqb-true, eq-eqb, ne-eqb, lt-leb}
 use Rattle.model.specs.declared.Domain.{Domain}
 use Rattle.model.specs.Lists.{among, allDifferent, same}
 use Rattle.model.specs.Subobject.{Subobject}
-use Rattle.model.specs.Sequence.{Stop, Waiting, State, Reading, good, continue, domainOf, hasArea, ofSystem, ofArea, pinOf, added, domainsOf, enter, name, withSystem, areaNext, readSystem, readOne, readAll, startIn, meaning}
+use Rattle.model.specs.Sequence.{Stop, stop, Waiting, ReadingInput, waitingFor, stopWith, State, Reading, good, continue, domainOf, hasArea, ofSystem, ofArea, pinOf, added, domainsOf, enter, name, withSystem, areaNext, readSystem, readOne, readAll, startIn, meaning}
 use Rattle.model.specs.WrittenList.{written}
 use Rattle.laws.proofs.Tests.{and-both, both-and, clash}
 use Rattle.laws.proofs.Lists.{map-append}
@@ -39,7 +39,10 @@ enter-new o st d away fresh room = rw (ne-eqb d (st .here) away, fresh, lt-leb 1
 
 -- ---- naming a domain
 
-module _ (ds : List Domain) (sound : SoundDomains ds) where
+module _ (R : ReadingInput) (sound : SoundDomains (R .domains)) where
+  abbrev ds : List Domain
+  ds = R .domains
+
   -- an AS with a record of kind 0 names that domain
   system-names : (d : ℕ) → d < length ds → (domainOf ds d) .kind ≡ 0 → ofSystem ds ((domainOf ds d) .asn) ≡ d ∷ []
   unfolding ofSystem
@@ -66,12 +69,12 @@ module _ (ds : List Domain) (sound : SoundDomains ds) where
   -- domain has an area; where it has none, no area comes next.
   module _ (st st′ : State) (d : ℕ) (inside : d < length ds) (tail : List Item) (result : Reading (List Stop))
       (enters : (o : ℕ) → enter o (withSystem st ((domainOf ds d) .asn)) d ≡ good st′)
-      (next : (o : ℕ) → readAll ds (placed o tail) st′ ≡ result)
+      (next : (o : ℕ) → readAll R (placed o tail) st′ ≡ result)
       (calm : (domainOf ds d) .kind ≡ 0 → (o : ℕ) → areaNext (placed o tail) ≡ false) where
-    by-name : (names : List ℕ) → names ≡ d ∷ [] → (o later : ℕ) → continue (name o (withSystem st ((domainOf ds d) .asn)) names) (λ (s : State). readAll ds (placed later tail) s) ≡ result
+    by-name : (names : List ℕ) → names ≡ d ∷ [] → (o later : ℕ) → continue (name o (withSystem st ((domainOf ds d) .asn)) names) (λ (s : State). readAll R (placed later tail) s) ≡ result
     unfolding name
     by-name names e o later =
-        let on : State → Reading (List Stop) = λ (s : State). readAll ds (placed later tail) s in
+        let on : State → Reading (List Stop) = λ (s : State). readAll R (placed later tail) s in
         ap (λ (l : List ℕ). continue (name o (withSystem st ((domainOf ds d) .asn)) l) on) e ∙ ap (λ (r : Reading State). continue r on) (enters o) ∙ next later
 
     named
@@ -79,19 +82,19 @@ module _ (ds : List Domain) (sound : SoundDomains ds) where
         → (domainOf ds d) .kind ≡ k
         → (again ≡ true → (st .asn ≡ (domainOf ds d) .asn) × (k ≡ 0 → ⊥))
         → (o : ℕ)
-        → readAll ds (placed o (systemItems again ((domainOf ds d) .asn) ++ areaItems k (domainOf ds d) ++ tail)) st ≡ result
+        → readAll R (placed o (systemItems again ((domainOf ds d) .asn) ++ areaItems k (domainOf ds d) ++ tail)) st ≡ result
     unfolding readAll readOne
     named true zero e h o = absurd (h refl .1 refl)
     named true (suc k) e h o =
         let D = domainOf ds d in
         let later = o + length (areaItem (suc k) D .bytes) in
         let already : st ≡ withSystem st (D .asn) = λ i. record { asn = h refl .0 i; here = st .here; sequence = st .sequence; waiting = st .waiting } in
-        ap (λ (s : State). continue (name o s (ofArea ds (s .asn) (areaOf D))) (λ (x : State). readAll ds (placed later tail) x)) already
+        ap (λ (s : State). continue (name o s (ofArea ds (s .asn) (areaOf D))) (λ (x : State). readAll R (placed later tail) x)) already
         ∙ by-name (ofArea ds (D .asn) (areaOf D)) (area-names d inside) o later
     named false zero e h o =
         let D = domainOf ds d in
         let later = o + length (systemItem (D .asn) .bytes) in
-        ap (λ (b : Bool). continue (readSystem ds o st (D .asn) b) (λ (x : State). readAll ds (placed later tail) x)) (calm e later)
+        ap (λ (b : Bool). continue (readSystem R o st (D .asn) b) (λ (x : State). readAll R (placed later tail) x)) (calm e later)
         ∙ by-name (ofSystem ds (D .asn)) (system-names d inside e) o later
     named false (suc k) e h o =
         let D = domainOf ds d in
@@ -102,19 +105,19 @@ module _ (ds : List Domain) (sound : SoundDomains ds) where
         : (again : Bool)
         → (again ≡ true → (st .asn ≡ (domainOf ds d) .asn) × ((domainOf ds d) .kind ≡ 0 → ⊥))
         → (o : ℕ)
-        → readAll ds (placed o (domainItems again (domainOf ds d) ++ tail)) st ≡ result
+        → readAll R (placed o (domainItems again (domainOf ds d) ++ tail)) st ≡ result
     domain-read again h o = named again ((domainOf ds d) .kind) refl h o
 
   -- an entry constraint that is written waits; where none is, none does
   pin-read
       : (pin : Option ℕ) (asn here : ℕ) (sequence : List Stop) (tail : List Item) (result : Reading (List Stop))
-      → ((o : ℕ) (w : Option Waiting) → pinOf w ≡ pin → readAll ds (placed o tail) (record { asn = asn; here = here; sequence = sequence; waiting = w }) ≡ result)
+      → ((o : ℕ) (w : List Waiting) → pinOf w ≡ pin → readAll R (placed o tail) (record { asn = asn; here = here; sequence = sequence; waiting = w }) ≡ result)
       → (o : ℕ)
-      → readAll ds (placed o (pinItems pin ++ tail)) (record { asn = asn; here = here; sequence = sequence; waiting = none }) ≡ result
+      → readAll R (placed o (pinItems pin ++ tail)) (record { asn = asn; here = here; sequence = sequence; waiting = [] }) ≡ result
   unfolding readAll readOne
-  pin-read none asn here sequence tail result next o = next o none refl
+  pin-read none asn here sequence tail result next o = next o [] refl
   pin-read (some node) asn here sequence tail result next o =
-      next (o + length (pinItem node .bytes)) (some (record { offset = o; node = node })) refl
+      next (o + length (pinItem node .bytes)) (waitingFor o node ∷ []) refl
 
   -- behind a domain of kind 0 comes a constraint, another AS or nothing
   quiet
@@ -148,7 +151,7 @@ module _ (ds : List Domain) (sound : SoundDomains ds) where
       → allDifferent (domainsOf done ++ domainsOf rest) ≡ true
       → length done + length rest ≤ 16
       → (o : ℕ)
-      → readAll ds (placed o (itemsFrom ds (some ((domainOf ds last) .asn)) rest)) (record { asn = (domainOf ds last) .asn; here = last; sequence = done; waiting = none })
+      → readAll R (placed o (itemsFrom ds (some ((domainOf ds last) .asn)) rest)) (record { asn = (domainOf ds last) .asn; here = last; sequence = done; waiting = [] })
       ≡ good (done ++ rest)
   unfolding readAll
   rest-read [] done last h m w t r o = ap good (sym (append-nil done))
@@ -166,10 +169,10 @@ module _ (ds : List Domain) (sound : SoundDomains ds) where
       pin-read (p .pin) n last done (domainItems (eqb (D .asn) n) D ++ later) result
       (λ o′ wait e.
       let st : State = record { asn = n; here = last; sequence = done; waiting = wait } in
-      let itself : _≡_ {A = Stop} (record { domain = d; pin = pinOf wait }) p = λ i. record { domain = d; pin = e i } in
+      let itself : stopWith d wait ≡ p = ap (stop d) e in
       domain-read st (added (withSystem st (D .asn)) d) d (w .0) later result (λ o″. enter-new o″ (withSystem st (D .asn)) d away fresh (omega arith))
       (λ o″.
-      ap (λ (x : Stop). readAll ds (placed o″ later) (record { asn = D .asn; here = d; sequence = done ++ (x ∷ []); waiting = none })) itself
+      ap (λ (x : Stop). readAll R (placed o″ later) (record { asn = D .asn; here = d; sequence = done ++ (x ∷ []); waiting = [] })) itself
       ∙ rest-read rest (done ++ (p ∷ [])) d (w .0) (rw longer (among-last (domainsOf done) d)) (w .2) others (omega (arith, length-append done (p ∷ []))) o″
       ∙ ap good (append-assoc done (p ∷ []) rest))
       (quiet d rest (w .0) (w .2) behind)
@@ -185,19 +188,19 @@ module _ (ds : List Domain) (sound : SoundDomains ds) where
       → Writable ds (p ∷ rest)
       → allDifferent (domainsOf (p ∷ rest)) ≡ true
       → length (p ∷ rest) ≤ 16
-      → meaning ds (p .domain) (written ds (p ∷ rest)) ≡ good (p ∷ rest)
+      → meaning R (p .domain) (written ds (p ∷ rest)) ≡ good (p ∷ rest)
   unfolding meaning
   stops-read p rest e w t r =
       let d = p .domain in
       let D = domainOf ds d in
       let later = itemsFrom ds (some (D .asn)) rest in
-      let itself : _≡_ {A = Stop} (record { domain = d; pin = none }) p = λ i. record { domain = d; pin = sym e i } in
-      let start : State = startIn ds d in
-      ap (λ (subs : List Subobject). readAll ds subs start) (written-subobjects ds sound (p ∷ rest) w)
-      ∙ ap (λ (pin : Option ℕ). readAll ds (placed 0 (pinItems pin ++ (domainItems false D ++ later))) start) e
+      let itself : stopWith d [] ≡ p = ap (stop d) (sym e) in
+      let start : State = startIn R d in
+      ap (λ (subs : List Subobject). readAll R subs start) (written-subobjects ds sound (p ∷ rest) w)
+      ∙ ap (λ (pin : Option ℕ). readAll R (placed 0 (pinItems pin ++ (domainItems false D ++ later))) start) e
       ∙ domain-read start start d (w .0) later (good (p ∷ rest)) (λ o. enter-here o start d refl)
       (λ o.
-      ap (λ (x : Stop). readAll ds (placed o later) (record { asn = D .asn; here = d; sequence = x ∷ []; waiting = none })) itself
+      ap (λ (x : Stop). readAll R (placed o later) (record { asn = D .asn; here = d; sequence = x ∷ []; waiting = [] })) itself
       ∙ rest-read rest (p ∷ []) d (w .0) (among-last [] d) (w .2) t (omega arith) o)
       (quiet d rest (w .0) (w .2) t)
       false

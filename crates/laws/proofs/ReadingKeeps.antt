@@ -3,7 +3,6 @@
 use mathlib.Core.Path.{_≡_, refl, subst}
 use mathlib.Core.Bool.{Bool, true, false}
 use mathlib.Core.List.{List, [], _∷_, _++_, List·Memᴰ, List·Memᴰ·head}
-use mathlib.Core.Option.{Option, none, some}
 use Prim.Native.Nat.{ℕ, _<_}
 use native.Mathlib.Omega.{arith}
 use lib.ListN.{length}
@@ -13,7 +12,7 @@ use Rattle.model.specs.declared.Domain.{Domain}
 use Rattle.model.specs.declared.Refusal.{Refusal}
 use Rattle.model.specs.Lists.{among, countFrom}
 use Rattle.model.specs.Subobject.{Area, Named, prefix, system, area, Subobject, subobjects}
-use Rattle.model.specs.Sequence.{Stop, Waiting, State, Reading, refused, good, continue, pinOf, added, enterIf, domainsOf, enter, name, withSystem, wait, areaNext, ofSystem, ofArea, readSystem, readNamed, readOne, finish, readAll, startIn, meaning}
+use Rattle.model.specs.Sequence.{Stop, ReadingInput, stopWith, Waiting, State, Reading, refused, good, continue, added, enterIf, domainsOf, enter, name, withSystem, wait, areaNext, ofSystem, ofArea, readSystem, readNamed, readOne, finish, readAll, startIn, meaning}
 use Rattle.laws.proofs.Lists.{keep-mem, countFrom-mem}
 
 -- ---- readings that are good
@@ -52,14 +51,17 @@ module _ (ds : List Domain) where
 -- a domain of the profile that is new to a sequence of fewer than 16
 abbrev pub Grows : List Domain → (List Stop → Type 0) → Type 0
 Grows ds P =
-    (sequence : List Stop) (d : ℕ) (pin : Option ℕ)
+    (sequence : List Stop) (d : ℕ) (waiting : List Waiting)
     → P sequence
     → d < length ds
     → among d (domainsOf sequence) ≡ false
     → length sequence < 16
-    → P (sequence ++ (record { domain = d; pin = pin } ∷ []))
+    → P (sequence ++ (stopWith d waiting ∷ []))
 
-module _ (ds : List Domain) (P : List Stop → Type 0) (grows : Grows ds P) where
+module _ (R : ReadingInput) (P : List Stop → Type 0) (grows : Grows (R .domains) P) where
+  abbrev ds : List Domain
+  ds = R .domains
+
   -- a reading that is good keeps the property
   abbrev Keeps : Reading State → Type 0
   Keeps reading = (st : State) → reading ≡ good st → P (st .sequence)
@@ -77,7 +79,7 @@ module _ (ds : List Domain) (P : List Stop → Type 0) (grows : Grows ds P) wher
     keeps-enterIf true back full at d l b f = keeps-good st h
     keeps-enterIf false true full at d l b f = λ st′ g. refused-good _ st′ g
     keeps-enterIf false false true at d l b f = λ st′ g. refused-good _ st′ g
-    keeps-enterIf false false false at d l b f = keeps-good (added st d) (grows (st .sequence) d (pinOf (st .waiting)) h l b (leb-false 16 (length (st .sequence)) f))
+    keeps-enterIf false false false at d l b f = keeps-good (added st d) (grows (st .sequence) d (st .waiting) h l b (leb-false 16 (length (st .sequence)) f))
 
     keeps-name : (at : ℕ) (found : List ℕ) → Inside ds found → Keeps (name at st found)
     unfolding name enter
@@ -85,30 +87,31 @@ module _ (ds : List Domain) (P : List Stop → Type 0) (grows : Grows ds P) wher
     keeps-name at (d ∷ []) inside = keeps-enterIf (eqb d (st .here)) (among d (domainsOf (st .sequence))) (leb 16 (length (st .sequence))) at d (inside d (List·Memᴰ·head refl)) refl refl
     keeps-name at (d ∷ e ∷ rest) inside = λ st′ g. refused-good _ st′ g
 
-    keeps-wait : (at node : ℕ) (w : Option Waiting) → Keeps (wait at st node w)
-    keeps-wait at node none = keeps-good _ h
-    keeps-wait at node (some w) = λ st′ g. refused-good _ st′ g
+    keeps-wait : (at node : ℕ) (w : List Waiting) → Keeps (wait at st node w)
+    keeps-wait at node [] = keeps-good _ h
+    keeps-wait at node (w ∷ more) = λ st′ g. refused-good _ st′ g
 
-  keeps-system : (st : State) → P (st .sequence) → (at n : ℕ) (next : Bool) → Keeps (readSystem ds at st n next)
-  keeps-system st h at n true = keeps-good (withSystem st n) h
-  keeps-system st h at n false = keeps-name (withSystem st n) h at (ofSystem ds n) (system-inside ds n)
+  module _ (s : Subobject) (st : State) (h : P (st .sequence)) where
+    keeps-system : (n : ℕ) (next : Bool) → Keeps (readSystem R (s .offset) st n next)
+    keeps-system n true = keeps-good (withSystem st n) h
+    keeps-system n false = keeps-name (withSystem st n) h (s .offset) (ofSystem ds n) (system-inside ds n)
 
-  keeps-named : (st : State) → P (st .sequence) → (at : ℕ) (next : Bool) (x : Named) → Keeps (readNamed ds at st next x)
-  keeps-named st h at next (prefix a n) = keeps-wait st h at a (st .waiting)
-  keeps-named st h at next (system n) = keeps-system st h at n next
-  keeps-named st h at next (area a) = keeps-name st h at (ofArea ds (st .asn) a) (area-inside ds (st .asn) a)
+    keeps-named : (next : Bool) (x : Named) → Keeps (readNamed R s st next x)
+    keeps-named next (prefix a n) = keeps-wait st h (s .offset) a (st .waiting)
+    keeps-named next (system n) = keeps-system n next
+    keeps-named next (area a) = keeps-name st h (s .offset) (ofArea ds (st .asn) a) (area-inside ds (st .asn) a)
 
-  keeps-finish : (st : State) → P (st .sequence) → (w : Option Waiting) (sequence : List Stop) → finish st w ≡ good sequence → P sequence
-  keeps-finish st h none sequence e = subst P (good-same (st .sequence) sequence e) h
-  keeps-finish st h (some w) sequence e = refused-good _ sequence e
+  keeps-finish : (st : State) → P (st .sequence) → (w : List Waiting) (sequence : List Stop) → finish st w ≡ good sequence → P sequence
+  keeps-finish st h [] sequence e = subst P (good-same (st .sequence) sequence e) h
+  keeps-finish st h (w ∷ more) sequence e = refused-good _ sequence e
 
-  keeps-all : (subs : List Subobject) (st : State) → P (st .sequence) → (sequence : List Stop) → readAll ds subs st ≡ good sequence → P sequence
+  keeps-all : (subs : List Subobject) (st : State) → P (st .sequence) → (sequence : List Stop) → readAll R subs st ≡ good sequence → P sequence
   unfolding readAll readOne
   keeps-all [] st h sequence e = keeps-finish st h (st .waiting) sequence e
   keeps-all (s ∷ rest) st h sequence e =
-      let c = continue-good (readOne ds st s (areaNext rest)) (λ (next : State). readAll ds rest next) sequence e in
-      keeps-all rest (c .0) (keeps-named st h (s .offset) (areaNext rest) (s .names) (c .0) (c .1)) sequence (c .2)
+      let c = continue-good (readOne R st s (areaNext rest)) (λ (next : State). readAll R rest next) sequence e in
+      keeps-all rest (c .0) (keeps-named s st h (areaNext rest) (s .names) (c .0) (c .1)) sequence (c .2)
 
-  pub meaning-keeps : (ingress : ℕ) (list : List ℕ) (sequence : List Stop) → P (record { domain = ingress; pin = none } ∷ []) → meaning ds ingress list ≡ good sequence → P sequence
+  pub meaning-keeps : (ingress : ℕ) (list : List ℕ) (sequence : List Stop) → P (stopWith ingress [] ∷ []) → meaning R ingress list ≡ good sequence → P sequence
   unfolding meaning
-  meaning-keeps ingress list sequence h e = keeps-all (subobjects list) (startIn ds ingress) h sequence e
+  meaning-keeps ingress list sequence h e = keeps-all (subobjects list) (startIn R ingress) h sequence e

@@ -13,10 +13,11 @@ use Rattle.model.specs.declared.Domain.{Domain}
 use Rattle.model.specs.declared.Verdict.the-variants.{Pass}
 use Rattle.model.specs.declared.ListKind.the-variants.{Include}
 use Rattle.model.specs.Lists.{any, allDifferent}
-use Rattle.model.specs.Profile.{version1, domainCount, profileVerdict, domains}
+use Rattle.model.specs.Profile.{layoutIn, domainCount, domains, verdictOn}
 use Rattle.model.specs.Subobject.{formVerdict}
-use Rattle.model.specs.Sequence.{Stop, good, meaning}
+use Rattle.model.specs.Sequence.{Stop, stop, ReadingInput, good, meaning}
 use Rattle.model.specs.WrittenList.{written, pinIf, stops, unwritable}
+use Rattle.model.specs.Request.{readingInput}
 use Rattle.model.specs.Calls.{readingOf}
 use Rattle.laws.proofs.Tests.{or-neither}
 use Rattle.laws.proofs.SoundDomains.{SoundDomains, sound-domains}
@@ -63,20 +64,20 @@ first-inside n (i ∷ is) e a = leb-false n i ((or-neither (leb n i) (any (λ (d
 -- ---- the meaning of what is written
 
 means
-    : (ds : List Domain) → SoundDomains ds → (is ms ns : List ℕ)
-    → Accepts ds is ms ns
+    : (R : ReadingInput) → SoundDomains (R .domains) → (is ms ns : List ℕ)
+    → Accepts (R .domains) is ms ns
     → ((i : ℕ) → getD ns i 0 < 2 ^ 32)
-    → meaning ds (getD is 0 0) (written ds (stops is ms ns)) ≡ good (stops is ms ns)
+    → meaning R (getD is 0 0) (written (R .domains) (stops is ms ns)) ≡ good (stops is ms ns)
 unfolding stops
-means ds sound [] ms ns a h = absurd (a .some-domain refl)
-means ds sound (i ∷ is) [] ns a h = absurd (omega (arith, a .as-many-marks))
-means ds sound (i ∷ is) (m ∷ ms) [] a h = absurd (omega (arith, a .as-many-nodes))
-means ds sound (i ∷ is) (m ∷ ms) (n ∷ ns) a h =
-    let p : Stop = record { domain = i; pin = pinIf m n } in
+means R sound [] ms ns a h = absurd (a .some-domain refl)
+means R sound (i ∷ is) [] ns a h = absurd (omega (arith, a .as-many-marks))
+means R sound (i ∷ is) (m ∷ ms) [] a h = absurd (omega (arith, a .as-many-nodes))
+means R sound (i ∷ is) (m ∷ ms) (n ∷ ns) a h =
+    let p : Stop = stop i (pinIf m n) in
     let rest = stops is ms ns in
     let same = stops-domains is ms ns (omega (arith, a .as-many-marks)) (omega (arith, a .as-many-nodes)) in
-    stops-read ds sound p rest (first-unpinned m n (eqb-true m 0 (not-false (eqb m 0) (a .unpinned))))
-    (stops-writable ds (i ∷ is) (m ∷ ms) (n ∷ ns) (a .in-profile) h)
+    stops-read R sound p rest (first-unpinned m n (eqb-true m 0 (not-false (eqb m 0) (a .unpinned))))
+    (stops-writable (R .domains) (i ∷ is) (m ∷ ms) (n ∷ ns) (a .in-profile) h)
     (ap (λ (t : List ℕ). allDifferent (i ∷ t)) same ∙ a .different)
     (omega (arith, a .most, stops-length is ms ns))
 
@@ -84,9 +85,9 @@ means ds sound (i ∷ is) (m ∷ ms) (n ∷ ns) a h =
 
 -- a profile that is accepted, and lists that the writer accepts: domain indexes, marks of entry constraints, and nodes
 module _ (profile indexes marks nodes : List ℕ) (bytes : (i : ℕ) → getD profile i 0 < 256) (addresses : (i : ℕ) → getD nodes i 0 < 2 ^ 32)
-    (accepted : profileVerdict version1 profile ≡ Pass) (writes : unwritable (domains profile) indexes marks nodes ≡ false) where
+    (accepted : verdictOn profile ≡ Pass) (writes : unwritable (domains profile) indexes marks nodes ≡ false) where
   sound : SoundDomains (domains profile)
-  sound = sound-domains version1 profile bytes accepted
+  sound = sound-domains (layoutIn profile) profile bytes accepted
 
   asked : Accepts (domains profile) indexes marks nodes
   asked = accepts (domains profile) indexes marks nodes writes
@@ -117,14 +118,14 @@ module _ (profile indexes marks nodes : List ℕ) (bytes : (i : ℕ) → getD pr
       let list = written (domains profile) (stops indexes marks nodes) in
       let inside = first-inside (length (domains profile)) indexes (asked .some-domain) (asked .in-profile) in
       rw (accepted, lt-leb (domainCount profile) (getD indexes 0 0) (omega (arith, length-domains profile)), le-ltb 1024 (length list) written-short, written-passes)
-      (means (domains profile) sound indexes marks nodes asked addresses)
+      (means (readingInput profile) sound indexes marks nodes asked addresses)
 
 -- Document 01, "Written list": it is read back with its first domain as ingress.
 pub reads-back
     : (profile indexes marks nodes : List ℕ)
     → ((i : ℕ) → getD profile i 0 < 256)
     → ((i : ℕ) → getD nodes i 0 < 2 ^ 32)
-    → profileVerdict version1 profile ≡ Pass
+    → verdictOn profile ≡ Pass
     → unwritable (domains profile) indexes marks nodes ≡ false
     → readingOf profile (getD indexes 0 0) (written (domains profile) (stops indexes marks nodes)) ≡ good (stops indexes marks nodes)
 reads-back = read

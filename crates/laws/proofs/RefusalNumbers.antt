@@ -1,16 +1,14 @@
 -- Every refusal has one of document 01's numbers, from 10 to 35: so an answer 0, 1 or 2 is no refusal. By going through the checks, one after the other. Up to any number
 -- that is at least 35, since messages are refused by more.
-use Prim.Native.Nat.{ℕ, zero, suc, _+_, _≤_}
+use Prim.Native.Nat.{ℕ, zero, suc, _+_, _-_, _≤_}
 use native.Mathlib.Omega.{arith}
 use mathlib.Core.Path.{_≡_, sym, ap, subst}
 use mathlib.Core.Logic.{⊎-elim}
 use mathlib.Core.Bool.{Bool, true, false, not, _&&_, _||_}
 use mathlib.Core.List.{List, [], _∷_}
-use mathlib.Core.Option.{Option, none, some}
 use lib.ListN.{length}
 use lib.Dec.{eqb, leb, ltb}
 use borrow.Author.Tests.{ltb-true, ltb-false}
-use Rattle.model.specs.declared.Domain.{Domain}
 use Rattle.model.specs.declared.ListKind.{ListKind}
 use Rattle.model.specs.declared.ListKind.the-variants.{Include, Exclude}
 use Rattle.model.specs.declared.Refusal.{Refusal}
@@ -18,15 +16,16 @@ use Rattle.model.specs.declared.Verdict.{Verdict}
 use Rattle.model.specs.declared.Verdict.the-variants.{Pass, Refuse}
 use Rattle.model.specs.Lists.{among}
 use Rattle.model.specs.Verdict.{refuseIf, _andThen_, inTurn}
-use Rattle.model.specs.Profile.{Layout, version1, classOf, domainCount, hopCount, headerWrong, countsWrong, lengthWrong, headerVerdict, domainAt, domains, domainMalformed, domainMisordered, domainVerdict, hopAt, hopMalformed, hopMisordered, hopVerdict, crowded, crowdedVerdict, profileVerdict}
+use Rattle.model.specs.Along.{checkedAlong}
+use Rattle.model.specs.Profile.{Layout, classOf, domainCount, hopCount, headerWrong, countsWrong, lengthWrong, headerVerdict, domainAt, domains, domainMalformed, domainMisordered, domainVerdict, hopAt, hopMalformed, hopMisordered, hopVerdict, crowded, crowdedVerdict, profileVerdict, layoutIn}
 use Rattle.model.specs.Reserved.{asRanges, addressRanges, misplaced}
 use Rattle.model.specs.Floats.{inRange}
-use Rattle.model.specs.Subobject.{Named, prefix, system, area, Subobject, known, lengthFits, topAt, typeAt, areaLengthAt, topWrong, prefixWrong, paddingWrong, lengthAt, subobjectVerdict, formFrom, formVerdict, subobjects}
-use Rattle.model.specs.Sequence.{Waiting, State, Reading, refused, good, refuse, continue, enterIf, domainsOf, enter, name, wait, areaNext, readSystem, readNamed, readOne, finish, readAll, startIn, meaning, ofSystem, ofArea, withSystem}
-use Rattle.model.specs.Request.{Request, layoutFor, provided, requestVerdict, sequenceOf}
+use Rattle.model.specs.Subobject.{Named, prefix, system, area, Subobject, known, lengthFits, topAt, typeAt, areaLengthAt, topWrong, prefixWrong, paddingWrong, lengthAt, subobjectVerdict, formVerdict, subobjects, afterSubobject}
+use Rattle.model.specs.Sequence.{Waiting, ReadingInput, State, Reading, refused, good, refuse, continue, enterIf, domainsOf, enter, name, wait, areaNext, readSystem, readNamed, readOne, finish, readAll, startIn, meaning, ofSystem, ofArea, withSystem}
+use Rattle.model.specs.Request.{Request, layoutFor, readingInput, provided, requestVerdict, sequenceOf, sizesVerdict, formsVerdict, requestVerdictWith}
 use Rattle.model.specs.Calls.{readingOf}
 use Rattle.laws.proofs.Tests.{decide}
-use Rattle.laws.proofs.Walk.{form-step, form-end}
+use Rattle.laws.proofs.Along.{check-step, none-checked}
 
 -- a refusal's number, from 10 to the most
 abbrev pub Numbered : ℕ → Refusal → Type 0
@@ -67,10 +66,21 @@ module _ (most : ℕ) (high : 35 ≤ most) where
   turns check h i zero = passing
   turns check h i (suc n) = both (h i) (turns check h (suc i) n)
 
+  pub along
+      : (check : ℕ → Verdict) (next : ℕ → ℕ) (end : ℕ) → ((at : ℕ) → Refusing most (check at)) → (fuel at : ℕ) → Refusing most (checkedAlong fuel check next end at)
+  unfolding checkedAlong
+  along check next end h zero at = passing
+  along check next end h (suc fuel) at =
+      ⊎-elim
+      (λ (t : ltb at end ≡ true).
+      subst (Refusing most) (sym (check-step next end check at fuel (ltb-true at end t))) (both (h at) (along check next end h fuel (next at))))
+      (λ (f : ltb at end ≡ false). subst (Refusing most) (sym (none-checked next end check (suc fuel) at (ltb-false at end f))) passing)
+      (decide (ltb at end))
+
   header-refusing : (L : Layout) (s : List ℕ) → Refusing most (headerVerdict L s)
   unfolding headerVerdict
   header-refusing L s =
-      more (more (more (test (ltb (length s) 12) 10 0 (omega arith)) (headerWrong s) 11 0 (omega arith)) (countsWrong L s) 12 0 (omega arith)) (lengthWrong L s) 13 0 (omega arith)
+      more (more (more (test (ltb (length s) 12) 10 0 (omega arith)) (headerWrong L s) 11 0 (omega arith)) (countsWrong L s) 12 0 (omega arith)) (lengthWrong L s) 13 0 (omega arith)
 
   domain-refusing : (s : List ℕ) (i : ℕ) → Refusing most (domainVerdict s i)
   unfolding domainVerdict
@@ -101,16 +111,16 @@ module _ (most : ℕ) (high : 35 ≤ most) where
       (turns (hopVerdict L s) (hop-refusing L s) 0 (hopCount s)))
       (turns (crowdedVerdict L s) (crowded-refusing L s) 0 (hopCount s))
 
-  pub subobject-refusing : (k : ListKind) (s : List ℕ) (at : ℕ) → Refusing most (subobjectVerdict k s at)
+  pub subobject-refusing : (k : ListKind) (s : List ℕ) (end at : ℕ) → Refusing most (subobjectVerdict k s end at)
   unfolding subobjectVerdict
-  subobject-refusing k s at =
+  subobject-refusing k s end at =
       let t = typeAt s at in
       more
       (more
       (more
       (more
       (more
-      (more (test (ltb (length s) (at + 4)) 23 at (omega arith)) (not (known t)) 24 at (omega arith))
+      (more (test (ltb end (at + 4)) 23 at (omega arith)) (not (known k t)) 24 at (omega arith))
       (topWrong k (topAt s at))
       27
       at
@@ -119,11 +129,11 @@ module _ (most : ℕ) (high : 35 ≤ most) where
       26
       at
       (omega arith))
-      (not (lengthFits t (areaLengthAt s at) (lengthAt s at)))
+      (not (lengthFits k t (areaLengthAt s at) (lengthAt s at)))
       25
       at
       (omega arith))
-      (ltb (length s) (at + lengthAt s at))
+      (ltb end (at + lengthAt s at))
       23
       at
       (omega arith))
@@ -132,19 +142,9 @@ module _ (most : ℕ) (high : 35 ≤ most) where
       at
       (omega arith)
 
-  form-refusing : (fuel : ℕ) (k : ListKind) (s : List ℕ) (at : ℕ) → Refusing most (formFrom fuel k s at)
-  unfolding formFrom
-  form-refusing zero k s at = passing
-  form-refusing (suc fuel) k s at =
-      ⊎-elim
-      (λ (t : ltb at (length s) ≡ true).
-      subst (Refusing most) (sym (form-step k s at fuel (ltb-true at (length s) t))) (both (subobject-refusing k s at) (form-refusing fuel k s (at + lengthAt s at))))
-      (λ (f : ltb at (length s) ≡ false). subst (Refusing most) (sym (form-end (suc fuel) k s at (ltb-false at (length s) f))) passing)
-      (decide (ltb at (length s)))
-
   pub list-refusing : (k : ListKind) (s : List ℕ) → Refusing most (formVerdict k s)
   unfolding formVerdict
-  list-refusing k s = form-refusing (length s) k s 0
+  list-refusing k s = along (subobjectVerdict k s (length s)) (afterSubobject s) (length s) (subobject-refusing k s (length s)) (length s - 0) 0
 
   -- ---- readings
 
@@ -181,65 +181,69 @@ module _ (most : ℕ) (high : 35 ≤ most) where
   name-reads at st (d ∷ []) = enter-reads (eqb d (st .here)) (among d (domainsOf (st .sequence))) (leb 16 (length (st .sequence))) at st d
   name-reads at st (d ∷ e ∷ rest) = bad 29 at (omega arith)
 
-  wait-reads : (at : ℕ) (st : State) (node : ℕ) (w : Option Waiting) → Reads most (wait at st node w)
-  wait-reads at st node none = fine _
-  wait-reads at st node (some w) = bad 32 at (omega arith)
+  wait-reads : (at : ℕ) (st : State) (node : ℕ) (w : List Waiting) → Reads most (wait at st node w)
+  wait-reads at st node [] = fine _
+  wait-reads at st node (w ∷ more) = bad 32 at (omega arith)
 
-  system-reads : (ds : List Domain) (at : ℕ) (st : State) (n : ℕ) (next : Bool) → Reads most (readSystem ds at st n next)
-  system-reads ds at st n true = fine _
-  system-reads ds at st n false = name-reads at (withSystem st n) (ofSystem ds n)
+  system-reads : (R : ReadingInput) (at : ℕ) (st : State) (n : ℕ) (next : Bool) → Reads most (readSystem R at st n next)
+  system-reads R at st n true = fine _
+  system-reads R at st n false = name-reads at (withSystem st n) (ofSystem (R .domains) n)
 
-  named-reads : (ds : List Domain) (at : ℕ) (st : State) (next : Bool) (names : Named) → Reads most (readNamed ds at st next names)
-  named-reads ds at st next (prefix a n) = wait-reads at st a (st .waiting)
-  named-reads ds at st next (system n) = system-reads ds at st n next
-  named-reads ds at st next (area a) = name-reads at st (ofArea ds (st .asn) a)
+  named-reads : (R : ReadingInput) (s : Subobject) (st : State) (next : Bool) (names : Named) → Reads most (readNamed R s st next names)
+  named-reads R s st next (prefix a n) = wait-reads (s .offset) st a (st .waiting)
+  named-reads R s st next (system n) = system-reads R (s .offset) st n next
+  named-reads R s st next (area a) = name-reads (s .offset) st (ofArea (R .domains) (st .asn) a)
 
-  finish-reads : (st : State) (w : Option Waiting) → Reads most (finish st w)
-  finish-reads st none = fine _
-  finish-reads st (some w) = bad 32 (w .offset) (omega arith)
+  finish-reads : (st : State) (w : List Waiting) → Reads most (finish st w)
+  finish-reads st [] = fine _
+  finish-reads st (w ∷ more) = bad 32 (w .offset) (omega arith)
 
-  all-reads : (ds : List Domain) (subs : List Subobject) (st : State) → Reads most (readAll ds subs st)
+  all-reads : (R : ReadingInput) (subs : List Subobject) (st : State) → Reads most (readAll R subs st)
   unfolding readAll readOne
-  all-reads ds [] st = finish-reads st (st .waiting)
-  all-reads ds (s ∷ rest) st =
-      continue-reads (readOne ds st s (areaNext rest)) (λ (next : State). readAll ds rest next) (named-reads ds (s .offset) st (areaNext rest) (s .names)) (all-reads ds rest)
+  all-reads R [] st = finish-reads st (st .waiting)
+  all-reads R (s ∷ rest) st =
+      continue-reads (readOne R st s (areaNext rest)) (λ (next : State). readAll R rest next) (named-reads R s st (areaNext rest) (s .names)) (all-reads R rest)
 
-  pub meaning-reads : (ds : List Domain) (ingress : ℕ) (list : List ℕ) → Reads most (meaning ds ingress list)
+  pub meaning-reads : (R : ReadingInput) (ingress : ℕ) (list : List ℕ) → Reads most (meaning R ingress list)
   unfolding meaning
-  meaning-reads ds ingress list = all-reads ds (subobjects list) (startIn ds ingress)
+  meaning-reads R ingress list = all-reads R (subobjects list) (startIn R ingress)
 
   -- ---- a whole request, and a list alone
 
-  pub request-refusing : (r : Request) → Refusing most (requestVerdict r)
-  unfolding requestVerdict
-  request-refusing r =
+  pub sizes-refusing : (include exclude : List ℕ) → Refusing most (sizesVerdict include exclude)
+  sizes-refusing include exclude = more (test (ltb 1024 (length include)) 22 0 (omega arith)) (ltb 1024 (length exclude)) 22 1 (omega arith)
+
+  pub forms-refusing : (include exclude : List ℕ) → Refusing most (formsVerdict include exclude)
+  forms-refusing include exclude = both (list-refusing Include include) (list-refusing Exclude exclude)
+
+  -- with the checks of a reply beside it, if theirs are numbered so
+  pub refusing-with : {metrics ero : Verdict} → Refusing most metrics → Refusing most ero → (r : Request) → Refusing most (requestVerdictWith metrics ero r)
+  refusing-with of-metrics of-ero r =
       both
       (both
-      (more
-      (more
+      (both
+      (both
       (both
       (more (profile-refusing (layoutFor r) (r .profile)) (leb (domainCount (r .profile)) (r .ingress)) 20 0 (omega arith))
       (more (test (not (inRange (r .limits .bandwidth))) 21 0 (omega arith)) (r .limits .bounded && not (inRange (r .limits .bound))) 21 1 (omega arith)))
-      (ltb 1024 (length (r .include)))
-      22
-      0
-      (omega arith))
-      (ltb 1024 (length (r .exclude)))
-      22
-      1
-      (omega arith))
-      (list-refusing Include (r .include)))
-      (list-refusing Exclude (r .exclude))
+      of-metrics)
+      (sizes-refusing (r .include) (r .exclude)))
+      (forms-refusing (r .include) (r .exclude)))
+      of-ero
+
+  pub request-refusing : (r : Request) → Refusing most (requestVerdict r)
+  unfolding requestVerdict
+  request-refusing r = refusing-with passing passing r
 
   pub sequence-reads : (r : Request) → Reads most (sequenceOf r)
   unfolding sequenceOf
-  sequence-reads r = provided-reads (request-refusing r) (meaning-reads (domains (r .profile)) (r .ingress) (r .include))
+  sequence-reads r = provided-reads (request-refusing r) (meaning-reads (readingInput (r .profile)) (r .ingress) (r .include))
 
   pub reading-reads : (profile : List ℕ) (ingress : ℕ) (list : List ℕ) → Reads most (readingOf profile ingress list)
   unfolding readingOf
   reading-reads profile ingress list =
       provided-reads
       (both
-      (more (more (profile-refusing version1 profile) (leb (domainCount profile) ingress) 20 0 (omega arith)) (ltb 1024 (length list)) 22 0 (omega arith))
+      (more (more (profile-refusing (layoutIn profile) profile) (leb (domainCount profile) ingress) 20 0 (omega arith)) (ltb 1024 (length list)) 22 0 (omega arith))
       (list-refusing Include list))
-      (meaning-reads (domains profile) ingress list)
+      (meaning-reads (readingInput profile) ingress list)

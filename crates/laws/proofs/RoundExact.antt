@@ -10,11 +10,11 @@ use borrow.Author.Tests.{not-true}
 use Rattle.model.specs.declared.Round.{Round}
 use Rattle.model.specs.declared.Round.the-variants.{First, Second}
 use Rattle.model.specs.Lists.{isEmpty}
-use Rattle.model.specs.Subobject.{Subobject, subobjects}
+use Rattle.model.specs.Subobject.{Subobject}
 use Rattle.model.specs.Sequence.{Stop}
 use Rattle.model.specs.Exclusion.{counts, inForce, someDesired}
 use Rattle.model.specs.Profile.{hops}
-use Rattle.model.specs.Request.{Request, layoutFor, Search, searchIn}
+use Rattle.model.specs.Request.{Request, layoutFor, Search, allExclusions, searchIn}
 use Rattle.model.specs.Path.{Admissible, Route, admissible}
 use Rattle.model.specs.Rounds.{roundIf, roundBy, roundOf, searchOf}
 use Rattle.laws.proofs.Tests.{decide, and-both, both-and, and-false, clash, refuted}
@@ -41,16 +41,16 @@ pub record RoundExact (r : Request) (sequence : List Stop) : Type 0 where
   -- the second round applies exactly when no path is admissible in the first and some exclusion has X set
   pub second
       : (roundOf r sequence ≡ Second)
-      ↔ (NoneAdmissible (searchIn First r sequence) × (s : Subobject) × List·Memᴰ s (subobjects (r .exclude)) × (s .top ≡ true))
+      ↔ (NoneAdmissible (searchIn First r sequence) × (s : Subobject) × List·Memᴰ s (allExclusions (r .exclude) sequence) × (s .top ≡ true))
   -- the first exactly when some path is admissible in it or no exclusion has X set
   pub first
       : (roundOf r sequence ≡ First)
-      ↔ (((p : List ℕ) × Admissible (searchIn First r sequence) p) ⊎ AllClear (subobjects (r .exclude)))
+      ↔ (((p : List ℕ) × Admissible (searchIn First r sequence) p) ⊎ AllClear (allExclusions (r .exclude) sequence))
   -- the first round has every exclusion, the second those of X clear
-  pub all-in-first : (searchIn First r sequence) .exclusions ≡ subobjects (r .exclude)
+  pub all-in-first : (searchIn First r sequence) .exclusions ≡ allExclusions (r .exclude) sequence
   pub kept-in-second
       : (s : Subobject)
-      → List·Memᴰ s ((searchIn Second r sequence) .exclusions) ↔ (List·Memᴰ s (subobjects (r .exclude)) × (s .top ≡ false))
+      → List·Memᴰ s ((searchIn Second r sequence) .exclusions) ↔ (List·Memᴰ s (allExclusions (r .exclude) sequence) × (s .top ≡ false))
   -- and the search that counts is that of the round that applies
   pub applies : searchOf r sequence ≡ searchIn (roundOf r sequence) r sequence
 
@@ -111,7 +111,7 @@ pub round-exact : (r : Request) (sequence : List Stop) → SortedHops (hops (lay
 unfolding roundOf searchOf searchIn inForce someDesired
 round-exact r sequence sorted =
     let S = searchIn First r sequence in
-    let subs = subobjects (r .exclude) in
+    let subs = allExclusions (r .exclude) sequence in
     let top : Subobject → Bool = λ (s : Subobject). s .top in
     record {
       second = (

@@ -13,7 +13,7 @@ use Rattle.model.specs.declared.Verdict.{Verdict}
 use Rattle.model.specs.declared.Verdict.the-variants.{Pass, Refuse}
 use Rattle.model.specs.Verdict.{refuseIf, _andThen_, inTurn}
 use Rattle.model.specs.Reserved.{asRanges, addressRanges, misplaced}
-use Rattle.model.specs.Profile.{Layout, version1, classOf, domainCount, hopCount, headerWrong, countsWrong, lengthWrong, headerVerdict, domainAt, domainMalformed, domainMisordered, domainVerdict, hopAt, hopMalformed, hopMisordered, hopVerdict, crowded, crowdedVerdict, profileVerdict, domains}
+use Rattle.model.specs.Profile.{Layout, layoutIn, classOf, domainCount, hopCount, headerWrong, countsWrong, lengthWrong, headerVerdict, domainAt, domainMalformed, domainMisordered, domainVerdict, hopAt, hopMalformed, hopMisordered, hopVerdict, crowded, crowdedVerdict, profileVerdict, domains, verdictOn}
 use Rattle.model.specs.Sequence.{Stop, Reading}
 use Rattle.model.specs.WrittenList.{stops, written, unwritable}
 use Rattle.model.specs.Answers.{Numbers, done2}
@@ -47,7 +47,7 @@ module _ (L : Layout) (s : List ℕ) where
   numbered-header : Numbered (headerVerdict L s)
   unfolding headerVerdict
   numbered-header =
-      numbered-then (numbered-three (ltb (length s) 12) (headerWrong s) (countsWrong L s) 10 11 12 0 (omega arith) (omega arith) (omega arith))
+      numbered-then (numbered-three (ltb (length s) 12) (headerWrong L s) (countsWrong L s) 10 11 12 0 (omega arith) (omega arith) (omega arith))
       (numbered-if (lengthWrong L s) 13 0 (omega arith))
 
   numbered-domain : (i : ℕ) → Numbered (domainVerdict s i)
@@ -80,12 +80,12 @@ module _ (profile indexes marks nodes : List ℕ) where
 
   -- the profile was accepted and the sequence can be written; the bytes are those of the written list
   pub record Wrote (n room : ℕ) : Type 0 where
-    pub accepted : profileVerdict version1 profile ≡ Pass
+    pub accepted : verdictOn profile ≡ Pass
     pub writable : unwritable (domains profile) indexes marks nodes ≡ false
     pub bytes-written : (writeList profile indexes marks nodes room) .written ≡ written (domains profile) (stops indexes marks nodes)
     pub size : n ≡ length (written (domains profile) (stops indexes marks nodes))
 
-  wrote-by : (n room : ℕ) (v : Verdict) (u s : Bool) → Numbered v → profileVerdict version1 profile ≡ v → unwritable (domains profile) indexes marks nodes ≡ u
+  wrote-by : (n room : ℕ) (v : Verdict) (u s : Bool) → Numbered v → verdictOn profile ≡ v → unwritable (domains profile) indexes marks nodes ≡ u
       → ltb room (length bytes) ≡ s
       → writeList profile indexes marks nodes room ≡ answerWrite (v andThen refuseIf u 35 0 andThen refuseIf s 34 0) bytes
       → done2 n ≡ (writeList profile indexes marks nodes room) .numbers
@@ -110,7 +110,7 @@ module _ (profile indexes marks nodes : List ℕ) where
 
   pub wrote : (n room : ℕ) → done2 n ≡ (writeList profile indexes marks nodes room) .numbers → Wrote n room
   unfolding writeList bytes
-  wrote n room d = wrote-by n room _ _ _ (numbered-profile version1 profile) refl refl refl refl d
+  wrote n room d = wrote-by n room _ _ _ (numbered-profile (layoutIn profile) profile) refl refl refl refl d
 
   -- what was written is read again: the sequence, as many domains as were given
   pub read-again : (n room capacity : ℕ) → ((i : ℕ) → getD profile i 0 < 256) → ((i : ℕ) → getD nodes i 0 < 2 ^ 32)

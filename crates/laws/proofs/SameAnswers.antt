@@ -13,10 +13,9 @@ use Rattle.model.specs.declared.Verdict.{Verdict}
 use Rattle.model.specs.declared.Verdict.the-variants.{Pass, Refuse}
 use Rattle.model.specs.Lists.{keep}
 use Rattle.model.specs.Verdict.{refuseIf, _andThen_}
-use Rattle.model.specs.Subobject.{subobjects}
 use Rattle.model.specs.Sequence.{Stop, Reading}
 use Rattle.model.specs.Exclusion.{someDesired}
-use Rattle.model.specs.Request.{Request, Accepted, Search}
+use Rattle.model.specs.Request.{Request, Accepted, Search, allExclusions}
 use Rattle.model.specs.Path.{Route, shortestPaths}
 use Rattle.model.specs.Tree.{tree, tally}
 use Rattle.model.specs.Rounds.{roundOf, searchOf, overRounds}
@@ -46,7 +45,7 @@ pub record SameEntries (o o′ : Outcome TreeEntry) : Type 0 where
 pub record SameRound (r r′ : Request) (sequence : List Stop) : Type 0 where
   pub found : SameFound (searchOf r sequence) (searchOf r′ sequence)
   pub round : (roundOf r sequence ≡ roundOf r′ sequence) ⊎ (shortestPaths (searchOf r sequence) ≡ [])
-  pub clear : someDesired (subobjects (r .exclude)) ≡ someDesired (subobjects (r′ .exclude)) → roundOf r sequence ≡ roundOf r′ sequence
+  pub clear : someDesired (allExclusions (r .exclude) sequence) ≡ someDesired (allExclusions (r′ .exclude) sequence) → roundOf r sequence ≡ roundOf r′ sequence
 
 -- ---- first, next and a series
 

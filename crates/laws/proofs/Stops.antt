@@ -15,7 +15,7 @@ use Rattle.model.specs.declared.Domain.{Domain}
 use Rattle.model.specs.declared.DomainIndex.{DomainIndex}
 use Rattle.model.specs.declared.NodeAddress.{NodeAddress}
 use Rattle.model.specs.Lists.{any, allDifferent}
-use Rattle.model.specs.Sequence.{Stop, domainOf, domainsOf}
+use Rattle.model.specs.Sequence.{Stop, stop, domainOf, domainsOf}
 use Rattle.model.specs.WrittenList.{pinIf, stops, writtenStop, writtenFrom, firstPinned, unwritable}
 use Rattle.model.specs.Calls.{pinMark}
 use Rattle.model.specs.Path.{noStop}
@@ -31,7 +31,7 @@ module _ (ds : List Domain) (indexes marks nodes : List ℕ) where
   module _ (i : ℕ) (h : i < length indexes) (k : length marks ≡ length indexes) (l : length nodes ≡ length indexes) where
     -- the stop at a place, and the others after it
     pub stops-at : stops (drop i indexes) (drop i marks) (drop i nodes)
-        ≡ record { domain = getD indexes i 0; pin = pinIf (getD marks i 0) (getD nodes i 0) } ∷ stops (drop (suc i) indexes) (drop (suc i) marks) (drop (suc i) nodes)
+        ≡ stop (getD indexes i 0) (pinIf (getD marks i 0) (getD nodes i 0)) ∷ stops (drop (suc i) indexes) (drop (suc i) marks) (drop (suc i) nodes)
     unfolding stops
     stops-at = rw (drop-cons indexes i 0 h, drop-cons marks i 0 (omega arith), drop-cons nodes i 0 (omega arith)) refl
 

@@ -1,39 +1,38 @@
--- A list that is put together from subobjects is read as those subobjects: each has right form and names the same wherever it stands, and the walk steps
--- from each to the next. Shown once for every type and both list kinds, over a subobject's length; by recursion on the subobjects.
-use Prim.Native.Nat.{ℕ, zero, suc, _+_, _-_, _≤_, _<_}
+-- A list that is put together from subobjects is read as those subobjects: each has right form up to its own end and names the same wherever it stands. Shown once for
+-- every type and both list kinds, over a subobject's length; by the laws of things in a row.
+use Prim.Native.Nat.{ℕ, _+_, _-_, _≤_, _<_}
 use native.Mathlib.Nat.{add-zero, add-assoc}
 use native.Mathlib.Omega.{arith}
 use mathlib.Core.Path.{_≡_, refl, sym, ap, ap₂, _∙_}
 use mathlib.Core.Bool.{true, false, not, _&&_, _||_}
-use mathlib.Core.List.{List, [], _∷_, _++_, append-nil, append-assoc}
-use lib.ListN.{length, getD, take, length-append}
+use mathlib.Core.List.{List, [], _∷_, _++_, map}
+use lib.ListN.{length, getD, take}
 use lib.Seq.{getD-append-add, drop-append-add}
 use lib.Dec.{eqb, leb, ltb}
 use borrow.Author.Tests.{le-ltb}
-use Rattle.model.specs.declared.Verdict.{Verdict}
 use Rattle.model.specs.declared.Verdict.the-variants.{Pass}
 use Rattle.model.specs.declared.ListKind.{ListKind}
 use Rattle.model.specs.declared.ListKind.the-variants.{Include, Exclude}
+use Rattle.model.specs.Lists.{each}
 use Rattle.model.specs.Bytes.{part}
-use Rattle.model.specs.Verdict.{_andThen_}
-use Rattle.model.specs.Subobject.{Named, Subobject, known, lengthFits, topAt, typeAt, lengthAt, areaLengthAt, topWrong, prefixWrong, paddingWrong, subobjectVerdict, namedAt, subobjectAt, formFrom, formVerdict, subobjectsFrom, subobjects}
+use Rattle.model.specs.Subobject.{Named, Subobject, known, lengthFits, topAt, typeAt, lengthAt, areaLengthAt, topWrong, prefixWrong, paddingWrong, subobjectVerdict, namedAt, subobjectAt, afterSubobject, formVerdict, subobjects}
 use Rattle.laws.proofs.Numbers.{number-shift}
-use Rattle.laws.proofs.Walk.{form-step, form-end, subobjects-step, subobjects-end}
+use Rattle.laws.proofs.InARow.{Stands, stands-inside, stands-getD, stands-first, Each, Row, offsets, in-a-row, checked-row, places-row}
 
 -- what the form check looks at, one fact for each of its tests, in its order
-pub record RightForm (k : ListKind) (s : List ℕ) (at : ℕ) : Type 0 where
-  pub header : at + 4 ≤ length s
-  pub supported : known (typeAt s at) ≡ true
+pub record RightForm (k : ListKind) (s : List ℕ) (end at : ℕ) : Type 0 where
+  pub header : at + 4 ≤ end
+  pub supported : known k (typeAt s at) ≡ true
   pub topRight : topWrong k (topAt s at) ≡ false
   pub areaInRange : (eqb (typeAt s at) 7 && not (leb 1 (areaLengthAt s at) && leb (areaLengthAt s at) 13)) ≡ false
-  pub sizeFits : lengthFits (typeAt s at) (areaLengthAt s at) (lengthAt s at) ≡ true
-  pub whole : at + lengthAt s at ≤ length s
+  pub sizeFits : lengthFits k (typeAt s at) (areaLengthAt s at) (lengthAt s at) ≡ true
+  pub whole : at + lengthAt s at ≤ end
   pub bodyRight : ((eqb (typeAt s at) 1 && prefixWrong k s at) || (eqb (typeAt s at) 7 && paddingWrong s at)) ≡ false
 
-pub right-pass : {k : ListKind} {s : List ℕ} {at : ℕ} → RightForm k s at → subobjectVerdict k s at ≡ Pass
+pub right-pass : {k : ListKind} {s : List ℕ} {end at : ℕ} → RightForm k s end at → subobjectVerdict k s end at ≡ Pass
 unfolding subobjectVerdict
-right-pass {k} {s} {at} r =
-    rw (le-ltb (length s) (at + 4) (r .header), r .supported, r .topRight, r .areaInRange, r .sizeFits, le-ltb (length s) (at + lengthAt s at) (r .whole), r .bodyRight)
+right-pass {k} {s} {end} {at} r =
+    rw (le-ltb end (at + 4) (r .header), r .supported, r .topRight, r .areaInRange, r .sizeFits, le-ltb end (at + lengthAt s at) (r .whole), r .bodyRight)
 
 -- ---- the same wherever it stands
 
@@ -58,15 +57,16 @@ module _ (pre s : List ℕ) where
   padding-shift =
       rw (length-shift, area-shift, add-assoc (length pre) 4 (areaLengthAt s 0), part-shift (4 + areaLengthAt s 0) (lengthAt s 0 - (4 + areaLengthAt s 0)))
 
-  pub right-shift : {k : ListKind} → RightForm k s 0 → RightForm k (pre ++ s) (length pre)
-  right-shift {k} r =
+  -- and up to any later end
+  right-shift : {k : ListKind} {end later : ℕ} → length pre + end ≤ later → RightForm k s end 0 → RightForm k (pre ++ s) later (length pre)
+  right-shift {k} h r =
       record {
-        header = rw length-append (omega (arith, r .header));
+        header = omega (arith, r .header);
         supported = rw first-shift (r .supported);
         topRight = rw first-shift (r .topRight);
         areaInRange = rw (first-shift, area-shift) (r .areaInRange);
         sizeFits = rw (first-shift, area-shift, length-shift) (r .sizeFits);
-        whole = rw (length-append, length-shift) (omega (arith, r .whole));
+        whole = rw length-shift (omega (arith, r .whole));
         bodyRight = rw (first-shift, prefix-shift k, padding-shift) (r .bodyRight);
       }
 
@@ -74,6 +74,15 @@ module _ (pre s : List ℕ) where
   unfolding namedAt
   named-shift =
       rw (first-shift, area-shift, number-shift 4 pre s 2, getD-append-add pre s 6 0, number-shift 4 pre s 4, part-shift 4 4, part-shift 4 (areaLengthAt s 0), number-shift 2 pre s 2)
+
+-- bytes that are of right form up to their own end, whatever follows them, are so wherever they stand
+pub right-standing
+    : {k : ListKind} {s x : List ℕ} {end at : ℕ} (h : Stands s at x) → at + length x ≤ end
+    → ((post : List ℕ) → RightForm k (x ++ post) (length x) 0)
+    → subobjectVerdict k s end at ≡ Pass
+right-standing {k} {s} {x} {end} {at} h inside right =
+    ap₂ (λ (l : List ℕ) (n : ℕ). subobjectVerdict k l end n) (h .whole) (h .offset)
+    ∙ right-pass (right-shift (h .before) (x ++ h .after) (omega (arith, h .offset)) (right (h .after)))
 
 -- ---- one subobject after the other
 
@@ -84,84 +93,68 @@ pub record Item : Type 0 where
 
 -- in a list of this kind the bytes are a whole subobject of right form with the top bit clear that names this, whatever follows them
 pub record Encoded (k : ListKind) (x : Item) : Type 0 where
-  pub right : (post : List ℕ) → RightForm k (x .bytes ++ post) 0
+  pub right : (post : List ℕ) → RightForm k (x .bytes ++ post) (length (x .bytes)) 0
   pub clear : (post : List ℕ) → topAt (x .bytes ++ post) 0 ≡ false
   pub size : (post : List ℕ) → lengthAt (x .bytes ++ post) 0 ≡ length (x .bytes)
   pub long : 4 ≤ length (x .bytes)
   pub naming : (post : List ℕ) → namedAt (x .bytes ++ post) 0 ≡ x .names
 
 abbrev pub AllEncoded : ListKind → List Item → Type 0
-AllEncoded k [] = Unit {0}
-AllEncoded k (x ∷ xs) = Encoded k x × AllEncoded k xs
+AllEncoded k xs = Each (Encoded k) xs
+
+abbrev pub itemBytes : Item → List ℕ
+itemBytes x = x .bytes
 
 -- their bytes, one after the other
 abbrev pub joined : List Item → List ℕ
-joined [] = []
-joined (x ∷ xs) = x .bytes ++ joined xs
+joined xs = each itemBytes xs
 
 -- the subobjects, the first at an offset
 abbrev pub placed : ℕ → List Item → List Subobject
 placed at [] = []
 placed at (x ∷ xs) = record { offset = at; top = false; names = x .names } ∷ placed (at + length (x .bytes)) xs
 
--- what is left of a list is looked at where it begins
-begins : (pre s : List ℕ) → 4 ≤ length s → length pre < length (pre ++ s)
-begins pre s h = omega (arith, length-append pre s)
+module _ (k : ListKind) (s : List ℕ) where
+  -- an item where its bytes stand: its form passes, the next one starts behind its bytes, and the subobject there is what it says
+  module _ (at : ℕ) (x : Item) (h : Stands s at (x .bytes)) (r : Encoded k x) where
+    passing : subobjectVerdict k s (length s) at ≡ Pass
+    passing = right-standing h (stands-inside s at (x .bytes) h) (r .right)
 
-ended : (pre : List ℕ) → length (pre ++ []) ≤ length pre
-ended pre = rw append-nil (omega arith)
+    onward : afterSubobject s at ≡ at + length (x .bytes)
+    onward = ap (λ (n : ℕ). at + n) (stands-getD s at (x .bytes) h 1 ∙ r .size (h .after))
 
-module _ (k : ListKind) where
-  -- the subobject at the end of `pre`: the list goes on, its form passes, the next offset is the end of its bytes, and it is what its item says
-  module _ (pre : List ℕ) (x : Item) (rest : List ℕ) (h : Encoded k x) where
-    there : length pre < length (pre ++ (x .bytes ++ rest))
-    there = begins pre (x .bytes ++ rest) (omega (arith, h .long, length-append (x .bytes) rest))
-
-    passing : subobjectVerdict k (pre ++ (x .bytes ++ rest)) (length pre) ≡ Pass
-    passing = right-pass (right-shift pre (x .bytes ++ rest) (h .right rest))
-
-    onward : length pre + lengthAt (pre ++ (x .bytes ++ rest)) (length pre) ≡ length (pre ++ x .bytes)
-    onward = ap (λ (n : ℕ). length pre + n) (length-shift pre (x .bytes ++ rest) ∙ h .size rest) ∙ sym (length-append pre (x .bytes))
-
-    itself : subobjectAt (pre ++ (x .bytes ++ rest)) (length pre) ≡ record { offset = length pre; top = false; names = x .names }
+    itself : subobjectAt s at ≡ record { offset = at; top = false; names = x .names }
     itself =
-        let topped : topAt (pre ++ (x .bytes ++ rest)) (length pre) ≡ false = ap (leb 128) (first-shift pre (x .bytes ++ rest)) ∙ h .clear rest in
-        let named = named-shift pre (x .bytes ++ rest) ∙ h .naming rest in
-        λ i. record { offset = length pre; top = topped i; names = named i }
+        let topped : topAt s at ≡ false = ap (leb 128) (stands-first s at (x .bytes) h) ∙ r .clear (h .after) in
+        let named = ap₂ namedAt (h .whole) (h .offset) ∙ named-shift (h .before) (x .bytes ++ h .after) ∙ r .naming (h .after) in
+        λ i. record { offset = at; top = topped i; names = named i }
 
-  pub form-joined : (fuel : ℕ) (pre : List ℕ) (xs : List Item) → AllEncoded k xs → formFrom fuel k (pre ++ joined xs) (length pre) ≡ Pass
-  unfolding formFrom
-  form-joined zero pre xs h = refl
-  form-joined (suc fuel) pre [] h = form-end (suc fuel) k (pre ++ []) (length pre) (ended pre)
-  form-joined (suc fuel) pre (x ∷ xs) h =
-      form-step k (pre ++ (x .bytes ++ joined xs)) (length pre) fuel (there pre x (joined xs) (h .0))
-      ∙ ap (λ (v : Verdict). v andThen formFrom fuel k (pre ++ (x .bytes ++ joined xs)) (length pre + lengthAt (pre ++ (x .bytes ++ joined xs)) (length pre))) (passing pre x (joined xs) (h .0))
-      ∙ ap₂ (formFrom fuel k) (sym (append-assoc pre (x .bytes) (joined xs))) (onward pre x (joined xs) (h .0))
-      ∙ form-joined fuel (pre ++ x .bytes) xs (h .1)
+  read-placed : (at : ℕ) (xs : List Item) → Row itemBytes s at xs → AllEncoded k xs → map (subobjectAt s) (offsets itemBytes at xs) ≡ placed at xs
+  read-placed at [] w r = refl
+  read-placed at (x ∷ xs) w r =
+      ap₂ {C = List Subobject} (λ (y : Subobject) (ys : List Subobject). y ∷ ys)
+      (itself at x (w .0) (r .0))
+      (read-placed (at + length (x .bytes)) xs (w .1) (r .1))
 
-  pub subobjects-joined
-      : (fuel : ℕ) (pre : List ℕ) (xs : List Item)
-      → AllEncoded k xs
-      → length (joined xs) ≤ fuel
-      → subobjectsFrom fuel (pre ++ joined xs) (length pre) ≡ placed (length pre) xs
-  unfolding subobjectsFrom
-  subobjects-joined zero pre [] h f = refl
-  subobjects-joined zero pre (x ∷ xs) h f = absurd (omega (arith, f, h .0 .long, length-append (x .bytes) (joined xs)))
-  subobjects-joined (suc fuel) pre [] h f = subobjects-end (suc fuel) (pre ++ []) (length pre) (ended pre)
-  subobjects-joined (suc fuel) pre (x ∷ xs) h f =
-      let enough : length (joined xs) ≤ fuel = omega (arith, f, h .0 .long, length-append (x .bytes) (joined xs)) in
-      let later =
-      ap₂ (subobjectsFrom fuel) (sym (append-assoc pre (x .bytes) (joined xs))) (onward pre x (joined xs) (h .0))
-      ∙ subobjects-joined fuel (pre ++ x .bytes) xs (h .1) enough
-      ∙ ap (λ (o : ℕ). placed o xs) (length-append pre (x .bytes)) in
-      subobjects-step (pre ++ (x .bytes ++ joined xs)) (length pre) fuel (there pre x (joined xs) (h .0))
-      ∙ ap₂ {C = List Subobject} (λ (y : Subobject) (ys : List Subobject). y ∷ ys) (itself pre x (joined xs) (h .0)) later
+long : (k : ListKind) (x : Item) → Encoded k x → 0 < length (x .bytes)
+long k x r = omega (arith, r .long)
 
-  -- a whole list
-  pub form-whole : (xs : List Item) → AllEncoded k xs → formVerdict k (joined xs) ≡ Pass
+-- a whole list
+module _ (k : ListKind) (xs : List Item) (h : AllEncoded k xs) where
+  abbrev s : List ℕ
+  s = joined xs
+
+  row : Row itemBytes s 0 xs
+  row = in-a-row itemBytes [] xs
+
+  pub form-whole : formVerdict k (joined xs) ≡ Pass
   unfolding formVerdict
-  form-whole xs h = form-joined (length (joined xs)) [] xs h
+  form-whole =
+      checked-row itemBytes s (Encoded k) (subobjectVerdict k s (length s)) (afterSubobject s) (passing k s) (onward k s) (long k) (length s - 0) 0 xs row h
 
-  pub subobjects-whole : (xs : List Item) → AllEncoded k xs → subobjects (joined xs) ≡ placed 0 xs
+  pub subobjects-whole : subobjects (joined xs) ≡ placed 0 xs
   unfolding subobjects
-  subobjects-whole xs h = subobjects-joined (length (joined xs)) [] xs h (omega arith)
+  subobjects-whole =
+      ap (map (subobjectAt s))
+      (places-row itemBytes s (Encoded k) (subobjectVerdict k s (length s)) (afterSubobject s) (passing k s) (onward k s) (long k) (length s - 0) 0 xs row h (omega arith))
+      ∙ read-placed k s 0 xs row h

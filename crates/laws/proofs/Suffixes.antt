@@ -52,14 +52,16 @@ hopsFrom-mem S leg a {h} m =
 pub hopsFrom-step : (S : Search) (leg : Leg) (a : ℕ) {h : Hop} → List·Memᴰ h (hopsFrom S leg a) → Step S leg a (h .head .0)
 hopsFrom-step S leg a {h} m =
     let k = hopsFrom-mem S leg a m in
-    record { hop = h; recorded = k .recorded; onLeg = k .onLeg; tail = k .tail; head = refl; usable = k .usable }
+    record { crossing = record { hop = h; recorded = k .recorded; onLeg = k .onLeg; tail = k .tail; head = refl }; usable = k .usable }
 
-pub step-hopsFrom : (S : Search) (leg : Leg) (a b : ℕ) (s : Step S leg a b) → List·Memᴰ (s .hop) (hopsFrom S leg a)
+pub step-hopsFrom : (S : Search) (leg : Leg) (a b : ℕ) (s : Step S leg a b) → List·Memᴰ (s .crossing .hop) (hopsFrom S leg a)
 unfolding hopsFrom
 step-hopsFrom S leg a b s =
-    mem-keep (leaves S leg a) (s .recorded)
-    (both-and (between (leg .from) (leg .to) (s .hop)) (eqb (s .hop .tail .0) a && usable S (s .hop)) (s .onLeg)
-    (both-and (eqb (s .hop .tail .0) a) (usable S (s .hop)) (eq-eqb (s .hop .tail .0) a (s .tail)) (s .usable)))
+    let c = s .crossing in
+    let h = c .hop in
+    mem-keep (leaves S leg a) (c .recorded)
+    (both-and (between (leg .from) (leg .to) h) (eqb (h .tail .0) a && usable S h) (c .onLeg)
+    (both-and (eqb (h .tail .0) a) (usable S h) (eq-eqb (h .tail .0) a (c .tail)) (s .usable)))
 
 -- ---- how a suffix is made
 
@@ -198,14 +200,14 @@ suffix-complete S (leg ∷ rest) i a [] x = absurd (let l = x .long in omega ari
 suffix-complete S (leg ∷ rest) i a (b ∷ p) x =
     let s = subst (λ (c : ℕ). Step S leg c (getD p 0 0)) (x .start) (x .steps 0 (omega arith)) in
     let t = suffix-complete S rest (suc i) (getD p 0 0) p (tail-is S leg rest i a b p x) in (
-      extended a (s .hop) (t .0),
+      extended a (s .crossing .hop) (t .0),
       step-suffixes S leg rest i a
           (record {
             place = subst (λ (c : ℕ). allowed S i c ≡ true) (x .start) (at-place S b (omega arith) (x .places 0 (omega arith)));
-            hop = s .hop;
+            hop = s .crossing .hop;
             leaving = step-hopsFrom S leg a (getD p 0 0) s;
             further = t .0;
-            suffix = subst (λ (c : ℕ). List·Memᴰ (t .0) (suffixes S rest (suc i) c)) (sym (s .head)) (t .1);
+            suffix = subst (λ (c : ℕ). List·Memᴰ (t .0) (suffixes S rest (suc i) c)) (sym (s .crossing .head)) (t .1);
             made = refl;
           }),
       λ j. x .start j ∷ t .2 j,

@@ -11,9 +11,9 @@ use Rattle.model.specs.declared.Hop.{Hop}
 use Rattle.model.specs.declared.Round.{Round}
 use Rattle.model.specs.declared.Round.the-variants.{First, Second}
 use Rattle.model.specs.Lists.{keepIf, keep, among, allDifferent, sum}
-use Rattle.model.specs.Profile.{hopCount, hopAt, hops, between, domains}
+use Rattle.model.specs.Profile.{hopCount, hopAt, hops, between}
 use Rattle.model.specs.Sequence.{Stop, domainsOf}
-use Rattle.model.specs.Request.{Request, layoutFor, Accepted, Search, searchIn}
+use Rattle.model.specs.Request.{Request, layoutFor, readingInput, Accepted, Search, searchIn}
 use Rattle.model.specs.Path.{Leg, legs}
 use Rattle.model.specs.Tree.{tally}
 use Rattle.model.specs.Rounds.{roundOf, searchOf, overRounds}
@@ -52,11 +52,11 @@ module _ {A : Type 0} where
 
 -- ---- the legs
 
-abbrev fromOf : Leg → ℕ
+abbrev pub fromOf : Leg → ℕ
 fromOf leg = leg .from
 
 -- the legs leave the domains of the sequence
-legs-leave : (sequence : List Stop) → map fromOf (legs sequence) ≡ domainsOf sequence
+pub legs-leave : (sequence : List Stop) → map fromOf (legs sequence) ≡ domainsOf sequence
 unfolding legs
 legs-leave [] = refl
 legs-leave (d ∷ []) = refl
@@ -128,7 +128,7 @@ module _ (r : Request) (sequence : List Stop) (yes : Accepted r sequence) where
   one-round : (x : Round) → tally (searchIn x r sequence) ≤ hopCount (r .profile)
   unfolding searchIn hops
   one-round x =
-      let different = meaning-different (domains (r .profile)) (r .ingress) (r .include) sequence (accepted-meaning r sequence yes) in
+      let different = meaning-different (readingInput (r .profile)) (r .ingress) (r .include) sequence (accepted-meaning r sequence yes) in
       let most = tally-of-search (searchIn x r sequence) different in
       omega (arith, length-map-countFrom (hopAt (layoutFor r) (r .profile)) 0 (hopCount (r .profile)))
 

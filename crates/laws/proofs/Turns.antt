@@ -32,6 +32,11 @@ passed-first a b e = ap (λ (v : Verdict). v andThen b) e
 pub refused-first : (a b : Verdict) (r : Refusal) → a ≡ Refuse r → a andThen b ≡ Refuse r
 refused-first a b r e = ap (λ (v : Verdict). v andThen b) e
 
+-- nothing more to check
+pub andThen-nothing : (v : Verdict) → v andThen Pass ≡ v
+andThen-nothing Pass = refl
+andThen-nothing (Refuse r) = refl
+
 -- a check and then a refusal by a test
 pub andThen-refuseIf : (v : Verdict) (b : Bool) (n p : ℕ) → (v andThen refuseIf b n p ≡ Pass) ↔ ((v ≡ Pass) × (b ≡ false))
 andThen-refuseIf Pass b n p = (λ e. (refl, refuseIf-pass b n p .0 e), λ e. refuseIf-pass b n p .1 (e .1))

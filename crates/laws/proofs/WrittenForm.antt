@@ -23,7 +23,7 @@ use Rattle.laws.proofs.Numbers.{number-shift, number-bytesOf}
 use Rattle.laws.proofs.Subobjects.{Item, Encoded}
 
 -- type 1 has 8 bytes, whatever stands where type 7 has its area's length
-pin-size : (a : ℕ) → lengthFits 1 a 8 ≡ true
+pin-size : (a : ℕ) → lengthFits Include 1 a 8 ≡ true
 unfolding lengthFits any
 pin-size a = rw (zero-mul (roundedUp a))
 
@@ -104,7 +104,7 @@ ospf-encoded d k l h =
             topRight = refl;
             areaInRange = refl;
             sizeFits = refl;
-            whole = omega (arith, length-append bytes post);
+            whole = omega arith;
             bodyRight = refl;
           };
       clear = λ post. refl;
@@ -118,7 +118,7 @@ unfolding allZero all
 all-zero zero = refl
 all-zero (suc n) = all-zero n
 
-isis-size : (n : ℕ) → lengthFits 7 n (4 + roundedUp n) ≡ true
+isis-size : (n : ℕ) → lengthFits Include 7 n (4 + roundedUp n) ≡ true
 unfolding lengthFits any
 isis-size n = rw (one-mul (roundedUp n), eq-eqb (4 + roundedUp n) (4 + roundedUp n) refl)
 
@@ -145,7 +145,7 @@ isis-encoded d k low high h =
             topRight = refl;
             areaInRange = rw (le-leb 1 (d .length) low, le-leb (d .length) 13 high);
             sizeFits = isis-size (d .length);
-            whole = omega (arith, length-append (bytes ++ padding) post);
+            whole = omega arith;
             bodyRight = isis-padding (d .length) (roundedUp (d .length)) bytes post n (omega arith);
           };
       clear = λ post. refl;

@@ -12,6 +12,7 @@ use Rattle.model.specs.declared.Domain.{Domain}
 use Rattle.model.specs.declared.Verdict.the-variants.{Pass}
 use Rattle.model.specs.declared.ListKind.{ListKind}
 use Rattle.model.specs.declared.ListKind.the-variants.{Include}
+use Rattle.model.specs.Lists.{each}
 use Rattle.model.specs.Bytes.{bytesOf}
 use Rattle.model.specs.Subobject.{roundedUp, formVerdict, subobjects}
 use Rattle.model.specs.Sequence.{Stop, domainOf}
@@ -55,14 +56,17 @@ itemsFrom ds before (p ∷ rest) =
 -- ---- they are the written list
 
 joined-append : (xs ys : List Item) → joined (xs ++ ys) ≡ joined xs ++ joined ys
+unfolding each
 joined-append [] ys = refl
 joined-append (x ∷ xs) ys = ap (λ (s : List ℕ). x .bytes ++ s) (joined-append xs ys) ∙ sym (append-assoc (x .bytes) (joined xs) (joined ys))
 
 pin-joined : (pin : Option ℕ) → joined (pinItems pin) ≡ writtenPin pin
+unfolding each
 pin-joined none = refl
 pin-joined (some node) = append-nil (writtenPin (some node))
 
 system-joined : (before : Option ℕ) (n : ℕ) → joined (systemItems (repeated before n) n) ≡ systemAfter before n
+unfolding each
 system-joined none n = append-nil (writtenSystem n)
 system-joined (some before) n = go (eqb n before)
   where
@@ -71,11 +75,12 @@ system-joined (some before) n = go (eqb n before)
     go false = append-nil (writtenSystem n)
 
 area-joined : (k : ℕ) (d : Domain) → joined (areaItems k d) ≡ writtenArea k d
+unfolding each
 area-joined zero d = refl
 area-joined (suc k) d = append-nil (writtenArea (suc k) d)
 
 pub items-joined : (ds : List Domain) (before : Option ℕ) (ps : List Stop) → joined (itemsFrom ds before ps) ≡ writtenFrom ds before ps
-unfolding writtenFrom
+unfolding writtenFrom each
 items-joined ds before [] = refl
 items-joined ds before (p ∷ rest) =
     let d = domainOf ds (p .domain) in

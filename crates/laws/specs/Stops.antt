@@ -5,7 +5,7 @@ use lib.ListN.{getD}
 use Rattle.model.specs.declared.DomainIndex.{DomainIndex}
 use Rattle.model.specs.declared.NodeAddress.{NodeAddress}
 use Rattle.model.specs.Lists.{countFrom}
-use Rattle.model.specs.Sequence.{Stop}
+use Rattle.model.specs.Sequence.{Stop, stop}
 use Rattle.model.specs.WrittenList.{pinIf}
 
 -- domain i of the sequence, and its entry constraint's node
@@ -17,7 +17,7 @@ nodeIn ns i = (getD ns i (record { 0 = 0 })) .0
 
 -- domain i of the sequence with its entry constraint, where its mark says that it has one
 abbrev pub stopIn : List DomainIndex → List ℕ → List NodeAddress → ℕ → Stop
-stopIn ds marks ns i = record { domain = domainIn ds i; pin = pinIf (getD marks i 0) (nodeIn ns i) }
+stopIn ds marks ns i = stop (domainIn ds i) (pinIf (getD marks i 0) (nodeIn ns i))
 
 -- the first `count` of them
 unfoldable pub stopsOf : ℕ → List DomainIndex → List ℕ → List NodeAddress → List Stop

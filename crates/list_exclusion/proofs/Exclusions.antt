@@ -17,7 +17,7 @@ use Rattle.laws.proofs.Picks.{any-keep}
 use Rattle.laws.specs.Left.{formLeft, subobjectsLeft}
 use Rattle.laws.proofs.Walk.{form-whole, right-here, right-next, any-start, any-end, any-hit, any-more}
 use Rattle.list_subobject.specs.declared.item.Item.{Item}
-use Rattle.list_subobject.specs.Items.{namedOf, Readable, ItemIs, ItemAt}
+use Rattle.list_subobject.specs.Items.{namedOf, Readable, ItemAt}
 use Rattle.list_subobject.proofs.FormLaws.{readable}
 
 module _ (q : Bool → M.Named → Bool) where
@@ -40,30 +40,27 @@ module _ (q : Bool → M.Named → Bool) where
 
     module _ (at : ℕ) (u : Undecided at) where
       pub none-left : length s ≤ at → false ≡ someNamed
-      none-left h = sym (any-end test s at h) ∙ u .decides
+      none-left h = sym (any-end test s (length s) at h) ∙ u .decides
 
       module _ (h : at < length s) where
         pub readable-here : Readable s at
-        readable-here = readable Exclude s at (right-here Exclude s at h (u .right))
+        readable-here = readable Exclude s (length s) at (omega arith) (right-here Exclude s (length s) at h (u .right))
 
         module _ (it : Item) (here : ItemAt s at it) where
-          pub item-here : ItemIs Exclude s at it
-          item-here = here Exclude (right-here Exclude s at h (u .right))
-
           same : test (M.subobjectAt s at) ≡ q (it .top) (namedOf s (it .named))
-          same = ap₂ q (sym (item-here .top)) (sym (item-here .named))
+          same = ap₂ q (sym (here .top)) (sym (here .named))
 
           pub decided : q (it .top) (namedOf s (it .named)) ≡ true → true ≡ someNamed
-          decided t = sym (any-hit test Exclude s at h (u .right) (same ∙ t)) ∙ u .decides
+          decided t = sym (any-hit test Exclude s (length s) at h (u .right) (same ∙ t)) ∙ u .decides
 
           pub passed : q (it .top) (namedOf s (it .named)) ≡ false → Undecided (it .next)
           passed f =
               record {
-                reached = item-here .inside;
-                right = ap (formLeft Exclude s) (item-here .next) ∙ right-next Exclude s at h (u .right);
+                reached = here .inside;
+                right = ap (formLeft Exclude s) (here .next) ∙ right-next Exclude s (length s) at h (u .right);
                 decides =
-                    ap (λ (n : ℕ). any test (subobjectsLeft s n)) (item-here .next)
-                    ∙ sym (any-more test Exclude s at h (u .right) (same ∙ f))
+                    ap (λ (n : ℕ). any test (subobjectsLeft s n)) (here .next)
+                    ∙ sym (any-more test Exclude s (length s) at h (u .right) (same ∙ f))
                     ∙ u .decides;
               }
 

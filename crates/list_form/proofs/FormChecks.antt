@@ -5,20 +5,18 @@ use mathlib.Core.List.{List}
 use Prim.Native.Nat.{ℕ, zero, suc, _+_, _-_, _≤_, _<_}
 use native.Mathlib.Omega.{arith}
 use lib.Dec.{eqb, leb, ltb}
-use lib.ListN.{length, getD}
+use lib.ListN.{getD}
 use borrow.Author.Tests.{ne-eqb, lt-ltb, le-ltb}
 use Rattle.model.specs.declared.ListKind.{ListKind}
 use Rattle.model.specs.declared.Verdict.{Verdict}
 use Rattle.model.specs.declared.Verdict.the-variants.{Pass}
 use Rattle.model.specs.Verdict.{refuseIf, _andThen_}
 use Rattle.model.specs.Bytes.{part, allZero}
-use Rattle.model.specs.Subobject.{subobjectVerdict, lengthFits, topWrong, prefixWrong, paddingWrong, typeAt, topAt, lengthAt, areaLengthAt}
+use Rattle.model.specs.Subobject.{subobjectVerdict, known, lengthFits, topWrong, prefixWrong, paddingWrong, typeAt, topAt, lengthAt, areaLengthAt}
 use Rattle.list_subobject.specs.Items.{Readable}
 use Rattle.refusal.specs.Refused.{refusal}
 use Rattle.list_form.specs.Checks.{headWrong, fieldWrong, zeroFrom}
-use Rattle.list_subobject.specs.Lengths.{lengthOf}
 use Rattle.list_subobject.proofs.FormLaws.{padded}
-use Rattle.list_subobject.proofs.LengthLaws.{known-length, fits-length}
 
 -- ---- the checks as the code makes them: those of the first three bytes together, as one number
 
@@ -31,33 +29,33 @@ told zero at d = absurd (d refl)
 told (suc n) at d = refl
 
 abbrev headOf : Bool → Bool → Bool → Bool → ℕ
-headOf z w a e = cond z 24 (cond w 27 (cond a 26 (cond e 0 25)))
+headOf z w a e = cond (not z) 24 (cond w 27 (cond a 26 (cond e 0 25)))
 
--- b too short, z no known type, w L set, a a wrong area length, e the right length, p past the end, f a wrong field
+-- b too short, z a known type, w L set, a a wrong area length, e the right length, p past the end, f a wrong field
 by-head : (b z w a e p f : Bool) (at : ℕ)
-    → (refuseIf b 23 at andThen refuseIf (not (not z)) 24 at andThen refuseIf w 27 at andThen refuseIf a 26 at andThen refuseIf (not (not z && e)) 25 at andThen refuseIf p 23 at andThen refuseIf f 26 at)
+    → (refuseIf b 23 at andThen refuseIf (not z) 24 at andThen refuseIf w 27 at andThen refuseIf a 26 at andThen refuseIf (not e) 25 at andThen refuseIf p 23 at andThen refuseIf f 26 at)
     ≡ (refuseIf b 23 at andThen numbered (headOf z w a e) at andThen refuseIf p 23 at andThen refuseIf f 26 at)
 by-head true z w a e p f at = refl
-by-head false true w a e p f at = refl
-by-head false false true a e p f at = refl
-by-head false false false true e p f at = refl
-by-head false false false false true p f at = refl
-by-head false false false false false p f at = refl
+by-head false false w a e p f at = refl
+by-head false true true a e p f at = refl
+by-head false true false true e p f at = refl
+by-head false true false false true p f at = refl
+by-head false true false false false p f at = refl
 
-head-zero : (z w a e : Bool) → headOf z w a e ≡ 0 → (not z && e) ≡ true
-head-zero true w a e q = absurd (omega arith)
-head-zero false true a e q = absurd (omega arith)
-head-zero false false true e q = absurd (omega arith)
-head-zero false false false true q = refl
-head-zero false false false false q = absurd (omega arith)
+head-zero : (z w a e : Bool) → headOf z w a e ≡ 0 → e ≡ true
+head-zero false w a e q = absurd (omega arith)
+head-zero true true a e q = absurd (omega arith)
+head-zero true false true e q = absurd (omega arith)
+head-zero true false false true q = refl
+head-zero true false false false q = absurd (omega arith)
 
-module _ (k : ListKind) (s : List ℕ) (at : ℕ) where
+module _ (k : ListKind) (s : List ℕ) (end at : ℕ) where
   abbrev pub head : ℕ
   head = headWrong k (getD s at 0) (lengthAt s at) (areaLengthAt s at)
 
   -- the tests of the head
   abbrev z : Bool
-  z = eqb (lengthOf (typeAt s at) (areaLengthAt s at)) 0
+  z = known k (typeAt s at)
 
   abbrev w : Bool
   w = topWrong k (topAt s at)
@@ -66,36 +64,34 @@ module _ (k : ListKind) (s : List ℕ) (at : ℕ) where
   a = eqb (typeAt s at) 7 && not (leb 1 (areaLengthAt s at) && leb (areaLengthAt s at) 13)
 
   abbrev e : Bool
-  e = eqb (lengthAt s at) (lengthOf (typeAt s at) (areaLengthAt s at))
+  e = lengthFits k (typeAt s at) (areaLengthAt s at) (lengthAt s at)
 
   judged
-      : subobjectVerdict k s at
-      ≡ (refuseIf (ltb (length s) (at + 4)) 23 at andThen numbered head at andThen refuseIf (ltb (length s) (at + lengthAt s at)) 23 at andThen refuseIf (fieldWrong k s at) 26 at)
+      : subobjectVerdict k s end at
+      ≡ (refuseIf (ltb end (at + 4)) 23 at andThen numbered head at andThen refuseIf (ltb end (at + lengthAt s at)) 23 at andThen refuseIf (fieldWrong k s at) 26 at)
   unfolding subobjectVerdict headWrong
-  judged =
-      rw (fits-length (areaLengthAt s at) (lengthAt s at) (typeAt s at), known-length (areaLengthAt s at) (typeAt s at))
-      (by-head (ltb (length s) (at + 4)) z w a e (ltb (length s) (at + lengthAt s at)) (fieldWrong k s at) at)
+  judged = by-head (ltb end (at + 4)) z w a e (ltb end (at + lengthAt s at)) (fieldWrong k s at) at
 
   -- a right head says that the length is the type's
-  pub head-fits : head ≡ 0 → lengthFits (typeAt s at) (areaLengthAt s at) (lengthAt s at) ≡ true
+  pub head-fits : head ≡ 0 → lengthFits k (typeAt s at) (areaLengthAt s at) (lengthAt s at) ≡ true
   unfolding headWrong
-  head-fits q = rw (fits-length (areaLengthAt s at) (lengthAt s at) (typeAt s at), known-length (areaLengthAt s at) (typeAt s at)) (head-zero z w a e q)
+  head-fits q = head-zero z w a e q
 
   -- which refusal it is once the checks before have passed
-  pub short : length s < at + 4 → subobjectVerdict k s at ≡ refusal 23 at
-  short h = judged ∙ (rw (lt-ltb (length s) (at + 4) h) refl)
+  pub short : end < at + 4 → subobjectVerdict k s end at ≡ refusal 23 at
+  short h = judged ∙ (rw (lt-ltb end (at + 4) h) refl)
 
-  module _ (long : at + 4 ≤ length s) where
-    pub bad-head : (head ≡ 0 → ⊥) → subobjectVerdict k s at ≡ refusal head at
-    bad-head d = judged ∙ (rw (le-ltb (length s) (at + 4) long, told head at d) refl)
+  module _ (long : at + 4 ≤ end) where
+    pub bad-head : (head ≡ 0 → ⊥) → subobjectVerdict k s end at ≡ refusal head at
+    bad-head d = judged ∙ (rw (le-ltb end (at + 4) long, told head at d) refl)
 
     module _ (fine : head ≡ 0) where
-      pub past-end : length s < at + lengthAt s at → subobjectVerdict k s at ≡ refusal 23 at
-      past-end h = judged ∙ (rw (le-ltb (length s) (at + 4) long, fine, lt-ltb (length s) (at + lengthAt s at) h) refl)
+      pub past-end : end < at + lengthAt s at → subobjectVerdict k s end at ≡ refusal 23 at
+      past-end h = judged ∙ (rw (le-ltb end (at + 4) long, fine, lt-ltb end (at + lengthAt s at) h) refl)
 
       -- the last check decides
-      pub by-field : {f : Bool} → f ≡ fieldWrong k s at → at + lengthAt s at ≤ length s → subobjectVerdict k s at ≡ refuseIf f 26 at
-      by-field e h = judged ∙ (rw (le-ltb (length s) (at + 4) long, fine, le-ltb (length s) (at + lengthAt s at) h, ← e) refl)
+      pub by-field : {f : Bool} → f ≡ fieldWrong k s at → at + lengthAt s at ≤ end → subobjectVerdict k s end at ≡ refuseIf f 26 at
+      by-field e h = judged ∙ (rw (le-ltb end (at + 4) long, fine, le-ltb end (at + lengthAt s at) h, ← e) refl)
 
 -- what a subobject that lies inside the list has for padding
 module _ {s : List ℕ} {at : ℕ} (r : Readable s at) where

@@ -6,7 +6,6 @@ use lib.Dec.{eqb, leb}
 use Rattle.model.specs.declared.ListKind.{ListKind}
 use Rattle.model.specs.Bytes.{part, allZero}
 use Rattle.model.specs.Subobject as M
-use Rattle.list_subobject.specs.Lengths.{lengthOf}
 
 abbrev pub zeroFrom : List ℕ → ℕ → ℕ → Bool
 zeroFrom s from to = allZero (part s from (to - from))
@@ -15,10 +14,10 @@ zeroFrom s from to = allZero (part s from (to - from))
 unfoldable pub headWrong : ListKind → ℕ → ℕ → ℕ → ℕ
 headWrong k first n area =
     let t = first % 128 in
-    cond (eqb (lengthOf t area) 0) 24
+    cond (not (M.known k t)) 24
     (cond (M.topWrong k (leb 128 first)) 27
     (cond (eqb t 7 && not (leb 1 area && leb area 13)) 26
-    (cond (eqb n (lengthOf t area)) 0 25)))
+    (cond (M.lengthFits k t area n) 0 25)))
 
 -- the last check of a subobject's form: a field out of range, or padding that isn't zero
 abbrev pub fieldWrong : ListKind → List ℕ → ℕ → Bool

@@ -4,6 +4,7 @@ ghost use Prim.Native.Nat.{_+_, _≤_, _<_};
 ghost use lib.ListN.{length};
 ghost use lib.Dec.{eqb, leb};
 ghost use mathlib.Core.Bool.{not, _&&_};
+ghost use Rattle.model.specs.declared.ListKind.{ListKind};
 ghost use Rattle.model.specs.Subobject.{roundedUp, formVerdict, subobjectVerdict, topWrong, prefixWrong};
 ghost use Rattle.list_subobject.specs.Lengths.{lengthOf};
 ghost use Rattle.list_subobject.specs.Items.{Readable};
@@ -21,10 +22,10 @@ fn rounded_up(n: u8) -> u32
     (n as u32 + 3) / 4 * 4
 }
 
-// A subobject's length by its type and its area's length, 0 where the type isn't in the table of length rules. By tests, since a table in memory would
-// be laid out anew for each subobject.
+// A subobject's length by its type and its area's length, in either list, 0 where the type isn't in the table of rules. By tests, since a table in memory
+// would be laid out anew for each subobject.
 fn length_of(t: u8, area: u8) -> u32
-    ensures { λ r. ⌜ r ≡ lengthOf t area ⌝ }
+    ensures { λ r. ⌜ ((k : ListKind) → r ≡ lengthOf k t area) ⌝ }
 {
     if t == 1 {
         return 8;
@@ -143,7 +144,7 @@ fn head_wrong(kind: ListKind, first: u8, n: u8, area: u8) -> u32
 // The form of the subobject at an offset.
 fn form_at(kind: ListKind, list: &[u8], at: usize) -> Verdict
     requires { ⌜ (at < length (now list)) × (length (now list) ≤ 1024) ⌝ }
-    ensures { λ r. ⌜ r ≡ subobjectVerdict kind (now (list .entry)) at ⌝ }
+    ensures { λ r. ⌜ r ≡ subobjectVerdict kind (now (list .entry)) (length (now (list .entry))) at ⌝ }
 {
     let left = list.len() - at;
     if left < 4 {

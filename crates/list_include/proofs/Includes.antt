@@ -1,8 +1,7 @@
 -- The reading of an include list, step by step: what comes next is an area or not, where the reading starts, and what one subobject leaves of the rest.
 use mathlib.Core.Path.{_≡_, refl, sym, ap, _∙_}
 use mathlib.Core.Bool.{Bool, true, false, cond}
-use mathlib.Core.List.{List, [], _∷_}
-use mathlib.Core.Option.{none}
+use mathlib.Core.List.{List, [], _∷_, map}
 use Prim.Native.Nat.{ℕ, zero, suc, _+_, _-_, _≤_, _<_}
 use native.Mathlib.Omega.{arith}
 use lib.ListN.{length, getD, set, replicate}
@@ -13,8 +12,9 @@ use Rattle.laws.proofs.Tests.{decide}
 use Rattle.list_subobject.proofs.FormLaws.{named-6, named-7}
 use Rattle.model.specs.Bytes.{number, part}
 use Rattle.model.specs.Lists.{countFrom}
-use Rattle.model.specs.Subobject.{Subobject, prefix, system, area, subobjectAt, subobjectsFrom, typeAt, lengthAt, areaLengthAt, namedAt}
+use Rattle.model.specs.Subobject.{Subobject, prefix, system, area, subobjectAt, afterSubobject, typeAt, lengthAt, areaLengthAt, namedAt}
 use Rattle.model.specs.Sequence as M
+use Rattle.model.specs.Request.{readingInput}
 use Rattle.model.specs.declared.Domain.{Domain}
 use Rattle.model.specs.declared.DomainIndex.{DomainIndex}
 use Rattle.model.specs.Profile.{domainAt, domainCount, domainStart, domains}
@@ -22,23 +22,22 @@ use Rattle.laws.proofs.Records.{domain-at}
 use Rattle.list_include.specs.declared.state.State.{State}
 use Rattle.list_include.specs.declared.state.Waiting.the-variants.{Nothing}
 use Rattle.laws.specs.Stops.{nodeIn}
-use Rattle.list_include.specs.Reading.{Clean, SoundState, StateIs}
+use Rattle.list_include.specs.Reading.{subobjectOf, Clean, SoundState, StateIs}
 use Rattle.laws.specs.Left.{formLeft, subobjectsLeft}
-use Rattle.laws.proofs.Walk.{subobjects-end, subobjects-step, subobjects-next, subobjects-whole}
+use Rattle.laws.proofs.Along.{places-first}
+use Rattle.laws.proofs.Walk.{subobjects-end, subobjects-next, subobjects-whole}
 use Rattle.model.specs.declared.Refusal.{Refusal}
 use Rattle.model.specs.declared.ListKind.the-variants.{Include}
 use Rattle.model.specs.declared.Verdict.the-variants.{Pass}
 use Rattle.laws.specs.Stops.{stopsOf}
 use Rattle.list_subobject.specs.declared.item.Item.{Item}
-use Rattle.list_subobject.specs.Items.{namedOf, ItemIs}
+use Rattle.list_subobject.specs.Items.{ItemAt}
 
 -- ---- an area comes next exactly where the type is 6 or 7
 
 module _ (s : List ℕ) (at : ℕ) (h : at < length s) where
   next-named : M.areaNext (subobjectsLeft s at) ≡ M.isArea (namedAt s at)
-  next-named =
-      let left : length s - at ≡ suc (length s - suc at) = omega arith in
-      ap (λ (n : ℕ). M.areaNext (subobjectsFrom n s at)) left ∙ ap M.areaNext (subobjects-step s at (length s - suc at) h)
+  next-named = ap (λ (places : List ℕ). M.areaNext (map (subobjectAt s) places)) (places-first (afterSubobject s) (length s) at h)
 
   pub area-6 : typeAt s at ≡ 6 → true ≡ M.areaNext (subobjectsLeft s at)
   area-6 e = sym (next-named ∙ ap M.isArea (named-6 s at e))
@@ -71,7 +70,7 @@ module _ (s : List ℕ) (at : ℕ) (h : at < length s) where
       (decide (eqb (typeAt s at) 7))
 
 pub area-end : (s : List ℕ) (at : ℕ) → length s ≤ at → false ≡ M.areaNext (subobjectsLeft s at)
-area-end s at h = sym (ap M.areaNext (subobjects-end (length s - at) s at h))
+area-end s at h = sym (ap M.areaNext (subobjects-end s (length s) at h))
 
 -- ---- where the reading starts
 
@@ -103,51 +102,50 @@ first-sound asn d =
 
 pub started
     : (s : List ℕ) (d : DomainIndex) (x : ℕ) → d .0 < domainCount s → x ≡ number 4 s (domainStart (d .0))
-    → StateIs (first x d) (M.startIn (domains s) (d .0))
+    → StateIs (first x d) (M.startIn (readingInput s) (d .0))
 unfolding stopsOf countFrom domainAt
 started s d x h e =
     let asn : x ≡ (M.domainOf (domains s) (d .0)) .asn = e ∙ sym (ap (λ (r : Domain). r .asn) (domain-at s (d .0) M.noDomain h)) in
     record {
-      means = λ k. record { asn = asn k; here = d .0; sequence = record { domain = d .0; pin = none } ∷ []; waiting = none };
+      means = λ k. record { asn = asn k; here = d .0; sequence = M.stopWith (d .0) [] ∷ []; waiting = [] };
       sound = first-sound x d;
     }
 
 -- ---- one subobject, and what is left of the reading
 
-module _ (ds : List Domain) (s : List ℕ) (at : ℕ) (st : M.State) where
+module _ (R : M.ReadingInput) (s : List ℕ) (at : ℕ) (st : M.State) where
   -- the code's subobject stands for the one at the offset
   pub read-here
-      : (it : Item) (follows : Bool) → ItemIs Include s at it → follows ≡ M.areaNext (subobjectsLeft s (it .next))
-      → M.readNamed ds (it .offset) st follows (namedOf s (it .named)) ≡ M.readOne ds st (subobjectAt s at) (M.areaNext (subobjectsLeft s (at + lengthAt s at)))
-  unfolding M.readOne
+      : (it : Item) (follows : Bool) → ItemAt s at it → follows ≡ M.areaNext (subobjectsLeft s (it .next))
+      → M.readOne R st (subobjectOf s it) follows ≡ M.readOne R st (subobjectAt s at) (M.areaNext (subobjectsLeft s (at + lengthAt s at)))
   read-here it follows is e =
       let f : follows ≡ M.areaNext (subobjectsLeft s (at + lengthAt s at)) = e ∙ ap (λ (n : ℕ). M.areaNext (subobjectsLeft s n)) (is .next) in
-      λ i. M.readNamed ds (is .offset i) st (f i) (is .named i)
+      λ i. M.readOne R st (record { offset = is .offset i; top = is .top i; names = is .named i }) (f i)
 
   module _ (h : at < length s) (right : formLeft Include s at ≡ Pass) where
     pub read-more
-        : M.readAll ds (subobjectsLeft s at) st
-        ≡ M.continue (M.readOne ds st (subobjectAt s at) (M.areaNext (subobjectsLeft s (at + lengthAt s at)))) (λ (next : M.State). M.readAll ds (subobjectsLeft s (at + lengthAt s at)) next)
+        : M.readAll R (subobjectsLeft s at) st
+        ≡ M.continue (M.readOne R st (subobjectAt s at) (M.areaNext (subobjectsLeft s (at + lengthAt s at)))) (λ (next : M.State). M.readAll R (subobjectsLeft s (at + lengthAt s at)) next)
     unfolding M.readAll
-    read-more = ap (λ (l : List Subobject). M.readAll ds l st) (subobjects-next Include s at h right)
+    read-more = ap (λ (l : List Subobject). M.readAll R l st) (subobjects-next Include s (length s) at h right)
 
     -- by what the step says
     pub read-passed
-        : (next : M.State) → M.good next ≡ M.readOne ds st (subobjectAt s at) (M.areaNext (subobjectsLeft s (at + lengthAt s at)))
-        → M.readAll ds (subobjectsLeft s at) st ≡ M.readAll ds (subobjectsLeft s (at + lengthAt s at)) next
+        : (next : M.State) → M.good next ≡ M.readOne R st (subobjectAt s at) (M.areaNext (subobjectsLeft s (at + lengthAt s at)))
+        → M.readAll R (subobjectsLeft s at) st ≡ M.readAll R (subobjectsLeft s (at + lengthAt s at)) next
     read-passed next e =
-        read-more ∙ ap (λ (r : M.Reading M.State). M.continue r (λ (n : M.State). M.readAll ds (subobjectsLeft s (at + lengthAt s at)) n)) (sym e)
+        read-more ∙ ap (λ (r : M.Reading M.State). M.continue r (λ (n : M.State). M.readAll R (subobjectsLeft s (at + lengthAt s at)) n)) (sym e)
 
     pub read-refused
-        : (x : Refusal) → M.refused x ≡ M.readOne ds st (subobjectAt s at) (M.areaNext (subobjectsLeft s (at + lengthAt s at)))
-        → M.readAll ds (subobjectsLeft s at) st ≡ M.refused x
+        : (x : Refusal) → M.refused x ≡ M.readOne R st (subobjectAt s at) (M.areaNext (subobjectsLeft s (at + lengthAt s at)))
+        → M.readAll R (subobjectsLeft s at) st ≡ M.refused x
     read-refused x e =
-        read-more ∙ ap (λ (r : M.Reading M.State). M.continue r (λ (n : M.State). M.readAll ds (subobjectsLeft s (at + lengthAt s at)) n)) (sym e)
+        read-more ∙ ap (λ (r : M.Reading M.State). M.continue r (λ (n : M.State). M.readAll R (subobjectsLeft s (at + lengthAt s at)) n)) (sym e)
 
-pub read-end : (ds : List Domain) (s : List ℕ) (at : ℕ) (st : M.State) → length s ≤ at → M.finish st (st .waiting) ≡ M.readAll ds (subobjectsLeft s at) st
+pub read-end : (R : M.ReadingInput) (s : List ℕ) (at : ℕ) (st : M.State) → length s ≤ at → M.finish st (st .waiting) ≡ M.readAll R (subobjectsLeft s at) st
 unfolding M.readAll
-read-end ds s at st h = ap (λ (l : List Subobject). M.readAll ds l st) (sym (subobjects-end (length s - at) s at h))
+read-end R s at st h = ap (λ (l : List Subobject). M.readAll R l st) (sym (subobjects-end s (length s) at h))
 
-pub read-start : (ds : List Domain) (s : List ℕ) (d : ℕ) (st : M.State) → st ≡ M.startIn ds d → M.readAll ds (subobjectsLeft s 0) st ≡ M.meaning ds d s
+pub read-start : (R : M.ReadingInput) (s : List ℕ) (d : ℕ) (st : M.State) → st ≡ M.startIn R d → M.readAll R (subobjectsLeft s 0) st ≡ M.meaning R d s
 unfolding M.meaning
-read-start ds s d st e = λ i. M.readAll ds (subobjects-whole s i) (e i)
+read-start R s d st e = λ i. M.readAll R (subobjects-whole s i) (e i)

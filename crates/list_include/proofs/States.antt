@@ -75,12 +75,12 @@ module _ (st : State) (d : DomainIndex) (m : ℕ) (n : NodeAddress) (sound : Sou
         pin = pinIf (getD-set-other (st .pinned) (st .count) i m 0 e k) ((getD-set-other (st .pins) (st .count) i n (record { 0 = 0 }) e k) .0);
       }
 
-  newest : stateStop longer (st .count) ≡ record { domain = d .0; pin = M.pinOf (waitingOf (st .waiting)) }
+  newest : stateStop longer (st .count) ≡ M.stopWith (d .0) (waitingOf (st .waiting))
   newest =
       let p = ap₂ pinIf (at-pinned ∙ em) (at-pins ∙ en) ∙ pin-back (M.pinOf (waitingOf (st .waiting))) in
-      λ k. record { domain = at-domains k; pin = p k }
+      ap₂ M.stop at-domains p
 
-  sequence : stateStops longer ≡ stateStops st ++ (record { domain = d .0; pin = M.pinOf (waitingOf (st .waiting)) } ∷ [])
+  sequence : stateStops longer ≡ stateStops st ++ (M.stopWith (d .0) (waitingOf (st .waiting)) ∷ [])
   unfolding stopsOf
   sequence =
       ap (λ (c : ℕ). map (stateStop longer) (countFrom 0 c)) (add-one (st .count))
@@ -109,7 +109,7 @@ module _ (st : State) (d : DomainIndex) (m : ℕ) (n : NodeAddress) (sound : Sou
   pub added-state : StateIs longer (M.added (stateOf st) (d .0))
   added-state =
       record {
-        means = λ k. record { asn = st .asn; here = here k; sequence = sequence k; waiting = none };
+        means = λ k. record { asn = st .asn; here = here k; sequence = sequence k; waiting = [] };
         sound =
             record {
               some-domain = omega arith;

@@ -1,14 +1,16 @@
 -- What the code's state of a reading stands for, over the definitions of `model`.
 use mathlib.Core.Path.{_≡_}
-use mathlib.Core.List.{List}
-use mathlib.Core.Option.{Option, none, some}
+use mathlib.Core.List.{List, [], _∷_}
 use Prim.Native.Nat.{ℕ, _-_, _≤_, _<_}
 use lib.ListN.{length, getD}
+use Rattle.model.specs.Subobject.{Subobject}
 use Rattle.model.specs.Sequence as M
 use Rattle.model.specs.WrittenList.{pinIf}
 use Rattle.laws.specs.Stops.{domainIn, nodeIn, stopIn, stopsOf}
 use Rattle.model.specs.Request.{provided}
 use Rattle.model.specs.Calls.{pinMark, pinNode}
+use Rattle.list_subobject.specs.declared.item.Item.{Item}
+use Rattle.list_subobject.specs.Items.{namedOf}
 use Rattle.list_include.specs.declared.named_domains.NamedDomain.{NamedDomain}
 use Rattle.list_include.specs.declared.named_domains.NamedDomain.the-variants as NamedDomain
 use Rattle.list_include.specs.declared.state.Waiting.{Waiting}
@@ -16,9 +18,13 @@ use Rattle.list_include.specs.declared.state.Waiting.the-variants as Wai
 use Rattle.list_include.specs.declared.state.State.{State}
 use Rattle.list_include.specs.declared.state.ReadStep.{ReadStep}
 
-abbrev pub waitingOf : Waiting → Option M.Waiting
-waitingOf Waiting.Nothing = none
-waitingOf (Waiting.Node at node) = some (record { offset = at; node = node .0 })
+-- the subobject that the code has of a list
+abbrev pub subobjectOf : List ℕ → Item → Subobject
+subobjectOf s it = record { offset = it .offset; top = it .top; names = namedOf s (it .named) }
+
+abbrev pub waitingOf : Waiting → List M.Waiting
+waitingOf Waiting.Nothing = []
+waitingOf (Waiting.Node at node) = M.waitingFor at (node .0) ∷ []
 
 -- domain i of the sequence with its entry constraint, and the whole sequence
 abbrev pub stateStop : State → ℕ → M.Stop

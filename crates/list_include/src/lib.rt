@@ -20,13 +20,14 @@ ghost use Prim.Native.Nat.{_≤_, _<_};
 ghost use lib.ListN.{length};
 ghost use Rattle.model.specs.declared.ListKind.the-variants.{Include};
 ghost use Rattle.model.specs.declared.Verdict.the-variants.{Pass};
-ghost use Rattle.model.specs.Profile.{domains, domainCount};
+ghost use Rattle.model.specs.Profile.{domainCount};
 ghost use Rattle.model.specs.Subobject.{formVerdict};
-ghost use Rattle.model.specs.Sequence.{readSystem, readNamed, areaNext, startIn, finish, meaning};
+ghost use Rattle.model.specs.Sequence.{readSystem, readOne, areaNext, startIn, finish, meaning};
+ghost use Rattle.model.specs.Request.{readingInput};
 ghost use Rattle.laws.specs.Left.{subobjectsLeft};
-ghost use Rattle.list_subobject.specs.Items.{namedOf, AreaInside};
+ghost use Rattle.list_subobject.specs.Items.{AreaInside};
 ghost use Rattle.profile_records.specs.Domains.{WholeDomains, ShortAreas};
-ghost use Rattle.list_include.specs.Reading.{stateOf, waitingOf, SoundState, StateIs, ReadStepIs, MeaningIs};
+ghost use Rattle.list_include.specs.Reading.{subobjectOf, stateOf, waitingOf, SoundState, StateIs, ReadStepIs, MeaningIs};
 
 pub mod named_domains;
 pub mod state;
@@ -34,7 +35,7 @@ pub mod state;
 // An AS becomes current; unless an area follows at once it names its only domain.
 fn read_system(profile: &[u8], st: State, at: usize, asn: u32, follows: bool) -> ReadStep
     requires { ⌜ SoundState st × (at ≤ 1024) × WholeDomains (now profile) ⌝ }
-    ensures { λ r. ⌜ ReadStepIs r (readSystem (domains (now (profile .entry))) at (stateOf st) asn follows) ⌝ }
+    ensures { λ r. ⌜ ReadStepIs r (readSystem (readingInput (now (profile .entry))) at (stateOf st) asn follows) ⌝ }
 {
     let next = with_asn(st, asn);
     if follows {
@@ -50,7 +51,7 @@ fn read_system(profile: &[u8], st: State, at: usize, asn: u32, follows: bool) ->
 // One subobject.
 fn read_item(profile: &[u8], list: &[u8], st: State, item: Item, follows: bool) -> ReadStep
     requires { ⌜ SoundState st × (item .offset ≤ 1024) × AreaInside (now list) (item .named) × WholeDomains (now profile) × ShortAreas (now profile) ⌝ }
-    ensures { λ r. ⌜ ReadStepIs r (readNamed (domains (now (profile .entry))) (item .offset) (stateOf st) follows (namedOf (now (list .entry)) (item .named))) ⌝ }
+    ensures { λ r. ⌜ ReadStepIs r (readOne (readingInput (now (profile .entry))) (stateOf st) (subobjectOf (now (list .entry)) item) follows) ⌝ }
 {
     let at = item.offset;
     let named = item.named;
@@ -81,7 +82,7 @@ fn area_at(list: &[u8], at: usize) -> bool
 // The reading starts in the ingress domain, with its AS as current.
 fn start(profile: &[u8], ingress: DomainIndex) -> State
     requires { ⌜ WholeDomains (now profile) × (ingress .0 < domainCount (now profile)) ⌝ }
-    ensures { λ r. ⌜ StateIs r (startIn (domains (now (profile .entry))) (ingress .0)) ⌝ }
+    ensures { λ r. ⌜ StateIs r (startIn (readingInput (now (profile .entry))) (ingress .0)) ⌝ }
 {
     let i = ingress.0 as usize;
     let mut domains = [DomainIndex(0); 16];
@@ -121,7 +122,7 @@ fn finished(st: State) -> ReadStep
 pub fn read_list(profile: &[u8], ingress: DomainIndex, list: &[u8]) -> ReadStep
     requires { ⌜ WholeDomains (now profile) × ShortAreas (now profile) × (ingress .0 < domainCount (now profile)) ⌝ }
     requires { ⌜ (length (now list) ≤ 1024) × (formVerdict Include (now list) ≡ Pass) ⌝ }
-    ensures { λ r. ⌜ MeaningIs r (meaning (domains (now (profile .entry))) (ingress .0) (now (list .entry))) ⌝ }
+    ensures { λ r. ⌜ MeaningIs r (meaning (readingInput (now (profile .entry))) (ingress .0) (now (list .entry))) ⌝ }
 {
     let mut st = start(profile, ingress);
     let mut at: usize = 0;

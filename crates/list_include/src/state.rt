@@ -27,7 +27,7 @@ pub struct State {
     pub waiting: Waiting,
 }
 
-// The state after a step, and whether the step was refused. A refused step leaves the state as it was.
+// The state after a step, and whether the step was refused. Of a refused step nobody reads the state, and only that it is sound is promised.
 pub struct ReadStep {
     pub verdict: Verdict,
     pub state: State,

@@ -10,7 +10,7 @@ use Rattle.model.specs.declared.ListKind.the-variants.{Include}
 use Rattle.model.specs.declared.Verdict.{Verdict}
 use Rattle.model.specs.declared.Verdict.the-variants.{Pass, Refuse}
 use Rattle.model.specs.Verdict.{_andThen_}
-use Rattle.model.specs.Profile.{version1, profileVerdict, domainCount}
+use Rattle.model.specs.Profile.{domainCount, verdictOn}
 use Rattle.model.specs.Subobject.{formVerdict}
 use Rattle.model.specs.Request.{ingressVerdict, sizeVerdict}
 use borrow.Author.Tests.{leb-false, ltb-false}
@@ -19,10 +19,10 @@ use Rattle.refusal.specs.Refused.{refusal}
 use Rattle.list_reader.specs.ReadInclude.{readVerdict}
 
 module _ (P : List ℕ) (i : ℕ) (L : List ℕ) where
-  pub profile-refused : (r : Refusal) → profileVerdict version1 P ≡ Refuse r → readVerdict P i L ≡ Refuse r
+  pub profile-refused : (r : Refusal) → verdictOn P ≡ Refuse r → readVerdict P i L ≡ Refuse r
   profile-refused r e = ap (λ (v : Verdict). v andThen ingressVerdict P i andThen sizeVerdict L 0 andThen formVerdict Include L) e
 
-  module _ (e : profileVerdict version1 P ≡ Pass) where
+  module _ (e : verdictOn P ≡ Pass) where
     past : readVerdict P i L ≡ (ingressVerdict P i andThen sizeVerdict L 0 andThen formVerdict Include L)
     past = ap (λ (v : Verdict). v andThen ingressVerdict P i andThen sizeVerdict L 0 andThen formVerdict Include L) e
 
@@ -37,7 +37,7 @@ module _ (P : List ℕ) (i : ℕ) (L : List ℕ) where
 
 -- all checks passed: what each says
 pub record Passed (P : List ℕ) (i : ℕ) (L : List ℕ) : Type 0 where
-  pub profile : profileVerdict version1 P ≡ Pass
+  pub profile : verdictOn P ≡ Pass
   pub ingress : i < domainCount P
   pub size : length L ≤ 1024
   pub form : formVerdict Include L ≡ Pass
@@ -46,7 +46,7 @@ pub passed : (P : List ℕ) (i : ℕ) (L : List ℕ) → readVerdict P i L ≡ P
 passed P i L e =
     let three = andThen-pass _ (formVerdict Include L) .0 e in
     let two = andThen-pass _ (sizeVerdict L 0) .0 (three .0) in
-    let one = andThen-pass (profileVerdict version1 P) (ingressVerdict P i) .0 (two .0) in
+    let one = andThen-pass (verdictOn P) (ingressVerdict P i) .0 (two .0) in
     record {
       profile = one .0;
       ingress = leb-false (domainCount P) i (refuseIf-pass (leb (domainCount P) i) 20 0 .0 (one .1));

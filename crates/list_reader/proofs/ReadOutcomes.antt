@@ -9,9 +9,8 @@ use Rattle.model.specs.declared.Verdict.{Verdict}
 use Rattle.model.specs.declared.Verdict.the-variants.{Pass, Refuse}
 use Rattle.model.specs.declared.ReadAnswer.the-variants.{Read, Refused}
 use Rattle.model.specs.Lists.{over}
-use Rattle.model.specs.Profile.{domains}
 use Rattle.model.specs.Sequence as M
-use Rattle.model.specs.Request.{provided}
+use Rattle.model.specs.Request.{readingInput, provided}
 use Rattle.model.specs.Answers.{refused2, done2}
 use Rattle.model.specs.Calls.{Outcome, nothing, readInto, readingOf, readInclude, pinMark, pinNode}
 use Rattle.laws.proofs.Lists.{over-nothing}
@@ -23,11 +22,11 @@ use Rattle.list_reader.specs.ReadInclude.{readVerdict, SequenceIn, ReadI
 module _ (P : List ℕ) (i : ℕ) (L : List ℕ) where
   pub checks-refused : (r : Refusal) → readVerdict P i L ≡ Refuse r → readingOf P i L ≡ M.refused r
   unfolding readingOf
-  checks-refused r e = ap (λ (v : Verdict). provided v (M.meaning (domains P) i L)) e
+  checks-refused r e = ap (λ (v : Verdict). provided v (M.meaning (readingInput P) i L)) e
 
-  pub checks-passed : (m : M.Reading (List M.Stop)) → readVerdict P i L ≡ Pass → m ≡ M.meaning (domains P) i L → readingOf P i L ≡ m
+  pub checks-passed : (m : M.Reading (List M.Stop)) → readVerdict P i L ≡ Pass → m ≡ M.meaning (readingInput P) i L → readingOf P i L ≡ m
   unfolding readingOf
-  checks-passed m e q = ap (λ (v : Verdict). provided v (M.meaning (domains P) i L)) e ∙ sym q
+  checks-passed m e q = ap (λ (v : Verdict). provided v (M.meaning (readingInput P) i L)) e ∙ sym q
 
   module _ (room : ℕ) where
     pub outcome-refused : (r : Refusal) → readingOf P i L ≡ M.refused r → readInclude P i L room ≡ nothing (refused2 r)

@@ -7,7 +7,7 @@ use Rattle.model.specs.declared.ReadAnswer.{ReadAnswer}
 use Rattle.model.specs.declared.Verdict.{Verdict}
 use Rattle.model.specs.Lists.{over}
 use Rattle.model.specs.Verdict.{_andThen_}
-use Rattle.model.specs.Profile.{version1, profileVerdict}
+use Rattle.model.specs.Profile.{verdictOn}
 use Rattle.model.specs.Subobject.{formVerdict}
 use Rattle.model.specs.Sequence.{Stop}
 use Rattle.model.specs.Request.{ingressVerdict, sizeVerdict}
@@ -18,7 +18,7 @@ use Rattle.buffers.specs.Capacity.{least3}
 -- the checks of `readingOf` before the meaning of the list
 abbrev pub readVerdict : List ℕ → ℕ → List ℕ → Verdict
 readVerdict profile ingress list =
-    profileVerdict version1 profile
+    verdictOn profile
     andThen ingressVerdict profile ingress
     andThen sizeVerdict list 0
     andThen formVerdict Include list

@@ -6,6 +6,7 @@ use Prim.Native.Nat.{ℕ, _+_, _*_}
 use native.Mathlib.Omega.{arith}
 use lib.Dec.{eqb}
 use borrow.Author.Tests.{eqb-true, ne-eqb}
+use Rattle.model.specs.declared.ListKind.{ListKind}
 use Rattle.model.specs.Lists.{any}
 use Rattle.model.specs.Subobject.{known, lengthFits, roundedUp}
 use Rattle.list_subobject.specs.Lengths.{lengthIn, lengthOf}
@@ -30,10 +31,10 @@ by-type P p1 p5 p6 p7 p32 other t =
     (decide (eqb t 5)))
     (decide (eqb t 1))
 
-pub fits-length : (a n t : ℕ) → lengthFits t a n ≡ (known t && eqb n (lengthOf t a))
+pub fits-length : (k : ListKind) (a n t : ℕ) → lengthFits k t a n ≡ (known k t && eqb n (lengthOf k t a))
 unfolding lengthFits known lengthOf lengthIn any
-fits-length a n =
-    by-type (λ (t : ℕ). lengthFits t a n ≡ (known t && eqb n (lengthOf t a)))
+fits-length k a n =
+    by-type (λ (t : ℕ). lengthFits k t a n ≡ (known k t && eqb n (lengthOf k t a)))
     (or-false _)
     (or-false _)
     (or-false _)
@@ -41,10 +42,10 @@ fits-length a n =
     (or-false _)
     (λ t e1 e5 e6 e7 e32. rw (e1, e5, e6, e7, e32) refl)
 
-pub known-length : (a t : ℕ) → known t ≡ not (eqb (lengthOf t a) 0)
+pub known-length : (k : ListKind) (a t : ℕ) → known k t ≡ not (eqb (lengthOf k t a) 0)
 unfolding known lengthOf lengthIn any
-known-length a =
-    by-type (λ (t : ℕ). known t ≡ not (eqb (lengthOf t a) 0))
+known-length k a =
+    by-type (λ (t : ℕ). known k t ≡ not (eqb (lengthOf k t a) 0))
     (rw (ne-eqb (8 + 0 * roundedUp a) 0 (λ e. omega arith)) refl)
     (rw (ne-eqb (8 + 0 * roundedUp a) 0 (λ e. omega arith)) refl)
     (rw (ne-eqb (8 + 0 * roundedUp a) 0 (λ e. omega arith)) refl)
@@ -53,21 +54,21 @@ known-length a =
     (λ t e1 e5 e6 e7 e32. rw (e1, e5, e6, e7, e32) refl)
 
 -- a length that fits is the one that the scan finds
-pub fitting : (t a n : ℕ) → lengthFits t a n ≡ true → n ≡ lengthOf t a
-fitting t a n e = eqb-true n (lengthOf t a) (and-both (known t) (eqb n (lengthOf t a)) (sym (fits-length a n t) ∙ e) .1)
+pub fitting : (k : ListKind) (t a n : ℕ) → lengthFits k t a n ≡ true → n ≡ lengthOf k t a
+fitting k t a n e = eqb-true n (lengthOf k t a) (and-both (known k t) (eqb n (lengthOf k t a)) (sym (fits-length k a n t) ∙ e) .1)
 
-pub length-1 : (a : ℕ) → lengthOf 1 a ≡ 8
+pub length-1 : (k : ListKind) (a : ℕ) → lengthOf k 1 a ≡ 8
 unfolding lengthOf lengthIn
-length-1 a = omega arith
+length-1 k a = omega arith
 
-pub length-7 : (a : ℕ) → lengthOf 7 a ≡ 4 + roundedUp a
+pub length-7 : (k : ListKind) (a : ℕ) → lengthOf k 7 a ≡ 4 + roundedUp a
 unfolding lengthOf lengthIn
-length-7 a = omega arith
+length-7 k a = omega arith
 
-pub length-5 : (a : ℕ) → lengthOf 5 a ≡ 8
+pub length-5 : (k : ListKind) (a : ℕ) → lengthOf k 5 a ≡ 8
 unfolding lengthOf lengthIn
-length-5 a = omega arith
+length-5 k a = omega arith
 
-pub length-6 : (a : ℕ) → lengthOf 6 a ≡ 8
+pub length-6 : (k : ListKind) (a : ℕ) → lengthOf k 6 a ≡ 8
 unfolding lengthOf lengthIn
-length-6 a = omega arith
+length-6 k a = omega arith

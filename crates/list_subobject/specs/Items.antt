@@ -5,7 +5,6 @@ use mathlib.Core.List.{List}
 use Prim.Native.Nat.{ℕ, _+_, _≤_}
 use lib.ListN.{length}
 use Rattle.model.specs.declared.ListKind.{ListKind}
-use Rattle.model.specs.declared.Verdict.the-variants.{Pass}
 use Rattle.model.specs.Bytes.{part}
 use Rattle.model.specs.Subobject as M
 use Rattle.list_subobject.specs.declared.item.Named.{Named}
@@ -24,27 +23,24 @@ AreaInside s (Prefix a n) = Unit {0}
 AreaInside s (System n) = Unit {0}
 AreaInside s (Area k start n) = start + n ≤ length s
 
--- what right form says of a subobject's bytes: its length is its type's, and it lies inside the list
+-- what right form, in a list of some kind, says of a subobject's bytes: its length is its type's, and it lies inside the list
 pub record Readable (s : List ℕ) (at : ℕ) : Type 0 where
+  pub kind : ListKind
   pub long : at + 4 ≤ length s
   pub inside : at + M.lengthAt s at ≤ length s
-  pub fits : M.lengthFits (M.typeAt s at) (M.areaLengthAt s at) (M.lengthAt s at) ≡ true
+  pub fits : M.lengthFits kind (M.typeAt s at) (M.areaLengthAt s at) (M.lengthAt s at) ≡ true
 
 -- what the subobject at an offset names, with an area's bytes inside the list
 pub record NamedIs (s : List ℕ) (at : ℕ) (n : Named) : Type 0 where
   pub named : namedOf s n ≡ M.namedAt s at
   pub area : AreaInside s n
 
-pub record ItemIs (k : ListKind) (s : List ℕ) (at : ℕ) (it : Item) : Type 0 where
-  pub right : M.subobjectVerdict k s at ≡ Pass
+-- the subobject at an offset, in a list of either kind
+pub record ItemAt (s : List ℕ) (at : ℕ) (it : Item) : Type 0 where
   pub offset : it .offset ≡ at
   pub top : it .top ≡ M.topAt s at
   pub named : namedOf s (it .named) ≡ M.namedAt s at
-  pub next : it .next ≡ at + M.lengthAt s at
+  pub next : it .next ≡ M.afterSubobject s at
   pub further : at + 4 ≤ it .next
   pub inside : it .next ≤ length s
   pub area : AreaInside s (it .named)
-
--- the subobject at an offset, in a list of either kind whose form is right there
-abbrev pub ItemAt : List ℕ → ℕ → Item → Type 0
-ItemAt s at it = (k : ListKind) → M.subobjectVerdict k s at ≡ Pass → ItemIs k s at it

@@ -16,7 +16,7 @@ use Rattle.model.specs.declared.WriteAnswer.{WriteAnswer}
 use Rattle.model.specs.declared.WriteAnswer.the-variants.{Written, Refused}
 use Rattle.model.specs.Lists.{over}
 use Rattle.model.specs.Verdict.{refuseIf, _andThen_}
-use Rattle.model.specs.Profile.{version1, profileVerdict, domains}
+use Rattle.model.specs.Profile.{domains, verdictOn}
 use Rattle.model.specs.WrittenList.{stops, written, unwritable}
 use Rattle.model.specs.Answers.{numbersOfWrite, refused2, done2}
 use Rattle.model.specs.Calls.{Outcome, nothing, answerWrite, writeList}
@@ -33,7 +33,7 @@ module _ (profile indexes marks nodes : List ℕ) where
   bytes = written (domains profile) (stops indexes marks nodes)
 
   -- the outcome by what the three checks say
-  outcome-by : (room : ℕ) (v : Verdict) (u s : Bool) → profileVerdict version1 profile ≡ v → unwritable (domains profile) indexes marks nodes ≡ u
+  outcome-by : (room : ℕ) (v : Verdict) (u s : Bool) → verdictOn profile ≡ v → unwritable (domains profile) indexes marks nodes ≡ u
       → ltb room (length bytes) ≡ s → writeList profile indexes marks nodes room ≡ answerWrite (v andThen refuseIf u 35 0 andThen refuseIf s 34 0) bytes
   unfolding writeList bytes
   outcome-by room v u s e f g i = answerWrite (e i andThen refuseIf (f i) 35 0 andThen refuseIf (g i) 34 0) bytes
@@ -44,11 +44,11 @@ module _ (profile indexes marks nodes : List ℕ) where
       record { numbers = n ∙ ap (λ (x : Outcome ℕ). x .numbers) (sym e); buffer = b ∙ ap (λ (x : Outcome ℕ). over (x .written) entry) (sym e) }
 
   -- a profile that is refused
-  pub refused-profile : (entry : List ℕ) (r : Refusal) → profileVerdict version1 profile ≡ Refuse r → WrittenBy profile indexes marks nodes entry entry (Refused r)
+  pub refused-profile : (entry : List ℕ) (r : Refusal) → verdictOn profile ≡ Refuse r → WrittenBy profile indexes marks nodes entry entry (Refused r)
   refused-profile entry r e = by-outcome entry entry (Refused r) (nothing (refused2 r)) (outcome-by (length entry) (Refuse r) _ _ e refl refl) refl (sym (over-nothing entry))
 
   -- a sequence that can't be written
-  pub refused-sequence : (entry : List ℕ) → profileVerdict version1 profile ≡ Pass → unwritable (domains profile) indexes marks nodes ≡ true
+  pub refused-sequence : (entry : List ℕ) → verdictOn profile ≡ Pass → unwritable (domains profile) indexes marks nodes ≡ true
       → WrittenBy profile indexes marks nodes entry entry (refusedBy 35)
   refused-sequence entry e f = by-outcome entry entry (refusedBy 35) (nothing (refused2 (record { number = 35; place = 0 }))) (outcome-by (length entry) Pass true _ e f refl) refl (sym (over-nothing entry))
 

@@ -9,7 +9,7 @@ use mathlib.Core.Option.{Option, some}
 use lib.ListN.{length, getD, take, drop, length-append, length-drop}
 use lib.Seq.{length-take-le}
 use Rattle.model.specs.declared.Domain.{Domain}
-use Rattle.model.specs.Profile.{version1, domainCount, domainStart, domainAt, domains}
+use Rattle.model.specs.Profile.{layoutIn, domainCount, domainStart, domainAt, domains}
 use Rattle.model.specs.Sequence.{noDomain, domainOf}
 use Rattle.model.specs.WrittenList.{writtenPin, pinIf, systemIf, systemAfter, writtenArea, writtenStop, writtenFrom, written, stops}
 use Rattle.laws.proofs.Accepted.{AcceptedProfile, accepted}
@@ -48,8 +48,8 @@ abbrev pub left : List ℕ → List ℕ → List ℕ → List ℕ → ℕ → �
 left profile indexes marks nodes i before = writtenFrom (domains profile) (beforeOf i before) (stops (drop i indexes) (drop i marks) (drop i nodes))
 
 module _ (profile indexes marks nodes : List ℕ) (w : Writable profile indexes marks nodes) where
-  facts : AcceptedProfile version1 profile
-  facts = accepted version1 profile (w .accepted)
+  facts : AcceptedProfile (layoutIn profile) profile
+  facts = accepted (layoutIn profile) profile (w .accepted)
 
   pub sequence : Accepts (domains profile) indexes marks nodes
   sequence = accepts (domains profile) indexes marks nodes (w .writable)

@@ -10,7 +10,7 @@ use Rattle.model.specs.declared.Domain.{Domain}
 use Rattle.model.specs.declared.Verdict.the-variants.{Pass}
 use Rattle.model.specs.declared.WriteAnswer.{WriteAnswer}
 use Rattle.model.specs.Lists.{over}
-use Rattle.model.specs.Profile.{version1, areaLengthFits, profileVerdict, domains}
+use Rattle.model.specs.Profile.{areaLengthFits, domains, verdictOn}
 use Rattle.model.specs.WrittenList.{stops, written, unwritable}
 use Rattle.model.specs.Answers.{numbersOfWrite}
 use Rattle.model.specs.Calls.{writeList}
@@ -32,7 +32,7 @@ systemAgain (suc i) before asn = eqb asn before
 
 -- the profile is accepted and the sequence can be written
 pub record Writable (profile indexes marks nodes : List ℕ) : Type 0 where
-  pub accepted : profileVerdict version1 profile ≡ Pass
+  pub accepted : verdictOn profile ≡ Pass
   pub writable : unwritable (domains profile) indexes marks nodes ≡ false
 
 -- the first n bytes of the buffer are the written list

@@ -3,7 +3,7 @@ ghost use mathlib.Core.Path.{_≡_};
 ghost use Prim.Native.Nat.{_+_, _-_, _<_};
 ghost use lib.ListN.{length};
 ghost use Rattle.model.specs.declared.Verdict.the-variants.{Pass};
-ghost use Rattle.model.specs.Profile.{version1, profileVerdict, domains};
+ghost use Rattle.model.specs.Profile.{domains, verdictOn};
 ghost use Rattle.list_writer.specs.Writing.{systemAgain, Writable, AllPut, allOrNone, WrittenBy};
 use crate::parts::put_stop;
 use crate::writable::unwritable;
@@ -63,7 +63,7 @@ fn write_accepted(
     pins: &[u32],
     out: &mut [u8],
 ) -> WriteAnswer
-    requires { ⌜ profileVerdict version1 (now profile) ≡ Pass ⌝ }
+    requires { ⌜ verdictOn (now profile) ≡ Pass ⌝ }
     ensures { λ r. ⌜ WrittenBy (now (profile .entry)) (now (domains .entry)) (now (pinned .entry)) (now (pins .entry)) (now (out .entry)) (now (out .exit)) r ⌝ }
 {
     if unwritable(profile, domains, pinned, pins) {

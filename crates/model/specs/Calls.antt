@@ -14,12 +14,12 @@ use Rattle.model.specs.declared.ListKind.the-variants.{Include}
 use Rattle.model.specs.declared.TreeEntry.{TreeEntry}
 use Rattle.model.specs.Lists.{below, keep}
 use Rattle.model.specs.Verdict.{refuseIf, _andThen_}
-use Rattle.model.specs.Profile.{version1, profileVerdict, domains}
+use Rattle.model.specs.Profile.{domains, verdictOn}
 use Rattle.model.specs.Subobject.{formVerdict}
 use Rattle.model.specs.Sequence.{Stop, Reading, refused, good, meaning}
 use Rattle.model.specs.WrittenList.{written, stops, unwritable}
 use Rattle.model.specs.Floats.{floatOf}
-use Rattle.model.specs.Request.{Request, Search, ingressVerdict, sizeVerdict, provided, sequenceOf}
+use Rattle.model.specs.Request.{Request, Search, ingressVerdict, sizeVerdict, readingInput, provided, sequenceOf}
 use Rattle.model.specs.Path.{Route, shortestPaths}
 use Rattle.model.specs.Tree.{tree, tally}
 use Rattle.model.specs.Rounds.{roundOf, searchOf, overRounds}
@@ -44,18 +44,18 @@ profileNumbers Pass = record { answer = 0; others = 0 ∷ [] }
 profileNumbers (Refuse r) = refused1 r
 
 unfoldable pub checkProfile : List ℕ → Numbers
-checkProfile profile = profileNumbers (profileVerdict version1 profile)
+checkProfile profile = profileNumbers (verdictOn profile)
 
 -- ---- read_include: the checks whose inputs it takes, then the capacity for each domain
 
 unfoldable pub readingOf : List ℕ → ℕ → List ℕ → Reading (List Stop)
 readingOf profile ingress list =
     provided
-    (profileVerdict version1 profile
+    (verdictOn profile
     andThen ingressVerdict profile ingress
     andThen sizeVerdict list 0
     andThen formVerdict Include list)
-    (meaning (domains profile) ingress list)
+    (meaning (readingInput profile) ingress list)
 
 abbrev pub answerRead : Verdict → List Stop → Outcome Stop
 answerRead (Refuse r) sequence = nothing (refused2 r)
@@ -88,7 +88,7 @@ writeList profile indexes marks nodes room =
     let ds = domains profile in
     let bytes = written ds (stops indexes marks nodes) in
     answerWrite
-    (profileVerdict version1 profile
+    (verdictOn profile
     andThen refuseIf (unwritable ds indexes marks nodes) 35 0
     andThen roomVerdict (length bytes) room)
     bytes

@@ -2,6 +2,7 @@
 pub mod Lists
 pub mod Bytes
 pub mod Verdict
+pub mod Along
 pub mod Reserved
 pub mod Profile
 pub mod Subobject

@@ -11,7 +11,8 @@ use Rattle.model.specs.declared.Hop.{Hop}
 use Rattle.model.specs.declared.Limits.{Limits}
 use Rattle.model.specs.Lists.{all, each, keep}
 use Rattle.model.specs.Profile.{between}
-use Rattle.model.specs.Sequence.{Stop, domainOf}
+use Rattle.model.specs.Subobject.{Subobject}
+use Rattle.model.specs.Sequence.{Stop, stop, domainOf}
 use Rattle.model.specs.Exclusion.{excludedDomain, excludedNode}
 use Rattle.model.specs.Floats.{atLeast, atMost}
 use Rattle.model.specs.Request.{Search}
@@ -37,7 +38,7 @@ keepsPin none a = true
 keepsPin (some node) a = eqb a node
 
 abbrev pub noStop : Stop
-noStop = record { domain = 0; pin = none }
+noStop = stop 0 none
 
 abbrev pub noLeg : Leg
 noLeg = record { from = 0; to = 0 }
@@ -48,16 +49,31 @@ stopAt S i = getD (S .sequence) i noStop
 abbrev pub legAt : Search → ℕ → Leg
 legAt S i = getD (legs (S .sequence)) i noLeg
 
+-- the exclusions that count at place i of a path, for its domain and its address: at every place those of the search
+unfoldable pub exclusionsAt : Search → ℕ → List Subobject
+exclusionsAt S i = S .exclusions
+
+-- the domain at place i is excluded, and an address at place i
+abbrev pub domainExcludedAt : Search → ℕ → Bool
+domainExcludedAt S i = excludedDomain (exclusionsAt S i) (domainOf (S .domains) ((stopAt S i) .domain))
+
+abbrev pub nodeExcludedAt : Search → ℕ → ℕ → Bool
+nodeExcludedAt S i a = excludedNode (exclusionsAt S i) a
+
 -- ---- a path in document 01's words
 
--- a usable hop record of a leg leads from a to b
-pub record Step (S : Search) (leg : Leg) (a b : ℕ) : Type 0 where
+-- a hop record of a leg leads from a to b, whatever its bandwidth
+pub record Crossing (S : Search) (leg : Leg) (a b : ℕ) : Type 0 where
   pub hop : Hop
   pub recorded : List·Memᴰ hop (S .hops)
   pub onLeg : between (leg .from) (leg .to) hop ≡ true
   pub tail : hop .tail .0 ≡ a
   pub head : hop .head .0 ≡ b
-  pub usable : usable S hop ≡ true
+
+-- a usable one does
+pub record Step (S : Search) (leg : Leg) (a b : ℕ) : Type 0 where
+  pub crossing : Crossing S leg a b
+  pub usable : usable S (crossing .hop) ≡ true
 
 -- A way from the address a at place i has the shape of a path's tail: from there on an address for each domain and the destination, each step a usable hop record.
 -- Only its own addresses (a too) and Di to Dk must keep exclusions and entry constraints.
@@ -66,8 +82,8 @@ pub record IsWay (S : Search) (i a : ℕ) (p : List ℕ) : Type 0 where
   pub start : getD p 0 0 ≡ a
   pub destination : getD p (length (S .sequence) - i) 0 ≡ S .destination
   pub steps : (j : ℕ) → i + j < length (S .sequence) → Step S (legAt S (i + j)) (getD p j 0) (getD p (suc j) 0)
-  pub domains : (j : ℕ) → i + j < length (S .sequence) → excludedDomain (S .exclusions) (domainOf (S .domains) ((stopAt S (i + j)) .domain)) ≡ false
-  pub nodes : (j : ℕ) → i + j ≤ length (S .sequence) → excludedNode (S .exclusions) (getD p j 0) ≡ false
+  pub domains : (j : ℕ) → i + j < length (S .sequence) → domainExcludedAt S (i + j) ≡ false
+  pub nodes : (j : ℕ) → i + j ≤ length (S .sequence) → nodeExcludedAt S (i + j) (getD p j 0) ≡ false
   pub pins : (j : ℕ) → i + j < length (S .sequence) → keepsPin ((stopAt S (i + j)) .pin) (getD p j 0) ≡ true
 
 -- A path is a way from the source at place 0: k + 2 addresses, the source, an entry node for each of D1 to Dk, the destination; each step a usable hop record; no domain
@@ -120,11 +136,11 @@ pub record Admissible (S : Search) (p : List ℕ) : Type 0 where
 
 -- an address may stand at place i of a path: it isn't excluded, and at a domain the domain isn't excluded and its entry constraint is kept, at the end it is the destination
 abbrev pub placeAllows : Bool → Search → ℕ → ℕ → Bool
-placeAllows true S i a = not (excludedDomain (S .exclusions) (domainOf (S .domains) ((stopAt S i) .domain))) && keepsPin ((stopAt S i) .pin) a
+placeAllows true S i a = not (domainExcludedAt S i) && keepsPin ((stopAt S i) .pin) a
 placeAllows false S i a = eqb a (S .destination)
 
 unfoldable pub allowed : Search → ℕ → ℕ → Bool
-allowed S i a = not (excludedNode (S .exclusions) a) && placeAllows (ltb i (length (S .sequence))) S i a
+allowed S i a = not (nodeExcludedAt S i a) && placeAllows (ltb i (length (S .sequence))) S i a
 
 -- addresses with the sum of the costs between them
 pub record Route : Type 0 where

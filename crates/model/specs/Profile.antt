@@ -13,10 +13,13 @@ use Rattle.model.specs.Bytes.{number, part, allZero}
 use Rattle.model.specs.Verdict.{refuseIf, _andThen_, inTurn}
 use Rattle.model.specs.Reserved.{asRanges, addressRanges, misplaced}
 
--- What a later version of the format may set otherwise: the size of a hop record, the place of the cost in it, the largest cost, the most hops.
+-- What a version of the format sets: its number, the size of a hop record, the places in it of the cost that counts and of
+-- the other cost (in a record of one cost the same place), the largest cost, the most hops.
 pub record Layout : Type 0 where
+  pub version : ℕ
   pub hopSize : ℕ
   pub costAt : ℕ
+  pub otherAt : ℕ
   pub mostCost : ℕ
   pub mostHops : ℕ
 
@@ -25,7 +28,11 @@ abbrev pub costLimit : ℕ
 costLimit = 16777215
 
 abbrev pub version1 : Layout
-version1 = record { hopSize = 20; costAt = 12; mostCost = costLimit; mostHops = 3000 }
+version1 = record { version = 1; hopSize = 20; costAt = 12; otherAt = 12; mostCost = costLimit; mostHops = 3000 }
+
+-- the layout that a profile's own bytes say
+unfoldable pub layoutIn : List ℕ → Layout
+layoutIn s = version1
 
 -- ---- header, 12 bytes: mark DSP, version u16, class u8, domain count u16, hop count u16, two zero bytes
 
@@ -46,8 +53,8 @@ abbrev pub hopStart : Layout → List ℕ → ℕ → ℕ
 hopStart L s i = 12 + 20 * domainCount s + L .hopSize * i
 
 -- mark, version or zero bytes wrong
-unfoldable pub headerWrong : List ℕ → Bool
-headerWrong s = not (eqb (number 3 s 0) 0x445350) || not (eqb (number 2 s 3) 1) || not (eqb (number 2 s 10) 0)
+unfoldable pub headerWrong : Layout → List ℕ → Bool
+headerWrong L s = not (eqb (number 3 s 0) 0x445350) || not (eqb (number 2 s 3) (L .version)) || not (eqb (number 2 s 10) 0)
 
 -- class or a count out of range
 unfoldable pub countsWrong : Layout → List ℕ → Bool
@@ -60,7 +67,7 @@ lengthWrong L s = not (eqb (length s) (hopStart L s (hopCount s)))
 unfoldable pub headerVerdict : Layout → List ℕ → Verdict
 headerVerdict L s =
     refuseIf (ltb (length s) 12) 10 0
-    andThen refuseIf (headerWrong s) 11 0
+    andThen refuseIf (headerWrong L s) 11 0
     andThen refuseIf (countsWrong L s) 12 0
     andThen refuseIf (lengthWrong L s) 13 0
 
@@ -119,6 +126,10 @@ domainVerdict s i =
 abbrev pub costOfHop : Layout → List ℕ → ℕ → ℕ
 costOfHop L s i = number 4 s (hopStart L s i + L .costAt)
 
+-- the cost that doesn't count, which is judged all the same
+abbrev pub otherCost : Layout → List ℕ → ℕ → ℕ
+otherCost L s i = number 4 s (hopStart L s i + L .otherAt)
+
 abbrev pub bandwidthBits : Layout → List ℕ → ℕ → ℕ
 bandwidthBits L s i = number 4 s (hopStart L s i + 16)
 
@@ -136,11 +147,15 @@ hopAt L s i =
 unfoldable pub hops : Layout → List ℕ → List Hop
 hops L s = map (hopAt L s) (countFrom 0 (hopCount s))
 
--- D or E not below the domain count, cost over the limit, bandwidth bits from 7F800000 up
+-- D or E not below the domain count, a cost over the limit, bandwidth bits from 7F800000 up
 unfoldable pub hopMalformed : Layout → List ℕ → ℕ → Bool
 hopMalformed L s i =
     let h = hopAt L s i in
-    leb (domainCount s) (h .from .0) || leb (domainCount s) (h .to .0) || ltb (L .mostCost) (h .cost) || leb 0x7f800000 (bandwidthBits L s i)
+    leb (domainCount s) (h .from .0)
+    || leb (domainCount s) (h .to .0)
+    || ltb (L .mostCost) (h .cost)
+    || ltb (L .mostCost) (otherCost L s i)
+    || leb 0x7f800000 (bandwidthBits L s i)
 
 -- not above the record before it by the first 12 bytes
 unfoldable pub hopMisordered : Layout → List ℕ → ℕ → Bool
@@ -182,3 +197,7 @@ profileVerdict L s =
     andThen inTurn (domainVerdict s) 0 (domainCount s)
     andThen inTurn (hopVerdict L s) 0 (hopCount s)
     andThen inTurn (crowdedVerdict L s) 0 (hopCount s)
+
+-- on a profile of the layout that its own bytes say
+abbrev pub verdictOn : List ℕ → Verdict
+verdictOn s = profileVerdict (layoutIn s) s

@@ -13,9 +13,9 @@ use Rattle.model.specs.declared.ListKind.the-variants.{Include, Exclude}
 use Rattle.model.specs.declared.Verdict.{Verdict}
 use Rattle.model.specs.declared.Verdict.the-variants.{Pass, Refuse}
 use Rattle.model.specs.Verdict.{refuseIf, _andThen_}
-use Rattle.model.specs.Profile.{Layout, version1, domainCount, profileVerdict, domains, hops}
+use Rattle.model.specs.Profile.{Layout, layoutIn, domainCount, profileVerdict, domains, hops}
 use Rattle.model.specs.Subobject.{Subobject, formVerdict, subobjects}
-use Rattle.model.specs.Sequence.{Stop, Reading, refused, good, meaning}
+use Rattle.model.specs.Sequence.{Stop, Reading, refused, good, ReadingInput, meaning}
 use Rattle.model.specs.Exclusion.{inForce}
 use Rattle.model.specs.Floats.{inRange, floatOfBits}
 
@@ -30,7 +30,7 @@ pub record Request : Type 0 where
 
 -- the layout of the request's profile
 abbrev pub layoutFor : Request → Layout
-layoutFor r = version1
+layoutFor r = layoutIn (r .profile)
 
 -- limits given by bits
 abbrev pub limitsOfBits : ℕ → Bool → ℕ → Limits
@@ -50,6 +50,17 @@ limitsVerdict l = refuseIf (not (inRange (l .bandwidth))) 21 0 andThen refuseIf 
 abbrev pub sizeVerdict : List ℕ → ℕ → Verdict
 sizeVerdict list place = refuseIf (ltb 1024 (length list)) 22 place
 
+-- both lists: their sizes, and their form
+abbrev pub sizesVerdict : List ℕ → List ℕ → Verdict
+sizesVerdict include exclude = sizeVerdict include 0 andThen sizeVerdict exclude 1
+
+abbrev pub formsVerdict : List ℕ → List ℕ → Verdict
+formsVerdict include exclude = formVerdict Include include andThen formVerdict Exclude exclude
+
+-- what of a profile an include list is read by
+abbrev pub readingInput : List ℕ → ReadingInput
+readingInput profile = record { domains = domains profile }
+
 -- a reading that goes on only where the checks pass
 abbrev pub provided : {A : Type 0} → Verdict → Reading A → Reading A
 provided Pass reading = reading
@@ -57,25 +68,34 @@ provided (Refuse r) reading = refused r
 
 -- ---- the checks of a whole request before 33: profile, 20 to 22, form of the include list, then of the exclude list, meaning of the include list
 
-unfoldable pub requestVerdict : Request → Verdict
-requestVerdict r =
+-- with the checks of a reply beside it in their places: those of its METRICs behind 21, that of its ERO behind the form of the lists
+abbrev pub requestVerdictWith : Verdict → Verdict → Request → Verdict
+requestVerdictWith metrics ero r =
     profileVerdict (layoutFor r) (r .profile)
     andThen ingressVerdict (r .profile) (r .ingress)
     andThen limitsVerdict (r .limits)
-    andThen sizeVerdict (r .include) 0
-    andThen sizeVerdict (r .exclude) 1
-    andThen formVerdict Include (r .include)
-    andThen formVerdict Exclude (r .exclude)
+    andThen metrics
+    andThen sizesVerdict (r .include) (r .exclude)
+    andThen formsVerdict (r .include) (r .exclude)
+    andThen ero
+
+-- a request alone
+unfoldable pub requestVerdict : Request → Verdict
+requestVerdict r = requestVerdictWith Pass Pass r
 
 -- the sequence that a request asks for, or its refusal
 unfoldable pub sequenceOf : Request → Reading (List Stop)
-sequenceOf r = provided (requestVerdict r) (meaning (domains (r .profile)) (r .ingress) (r .include))
+sequenceOf r = provided (requestVerdict r) (meaning (readingInput (r .profile)) (r .ingress) (r .include))
 
 -- accepted means that no check before 33 refuses
 abbrev pub Accepted : Request → List Stop → Type 0
 Accepted r sequence = sequenceOf r ≡ good sequence
 
 -- ---- what a search needs of an accepted request
+
+-- all exclusions of a request with this exclude list and this sequence
+unfoldable pub allExclusions : List ℕ → List Stop → List Subobject
+allExclusions exclude sequence = subobjects exclude
 
 pub record Search : Type 0 where
   pub domains : List Domain
@@ -93,7 +113,7 @@ searchIn x r sequence =
       domains = domains (r .profile);
       hops = hops (layoutFor r) (r .profile);
       sequence = sequence;
-      exclusions = inForce x (subobjects (r .exclude));
+      exclusions = inForce x (allExclusions (r .exclude) sequence);
       source = r .source;
       destination = r .destination;
       limits = r .limits;

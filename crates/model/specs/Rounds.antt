@@ -6,10 +6,10 @@ use mathlib.Core.List.{List}
 use Rattle.model.specs.declared.Round.{Round}
 use Rattle.model.specs.declared.Round.the-variants.{First, Second}
 use Rattle.model.specs.Lists.{isEmpty}
-use Rattle.model.specs.Subobject.{Subobject, subobjects}
+use Rattle.model.specs.Subobject.{Subobject}
 use Rattle.model.specs.Sequence.{Stop}
 use Rattle.model.specs.Exclusion.{someDesired}
-use Rattle.model.specs.Request.{Request, Search, searchIn}
+use Rattle.model.specs.Request.{Request, Search, allExclusions, searchIn}
 use Rattle.model.specs.Path.{admissible}
 
 abbrev pub roundIf : Bool → Round
@@ -21,7 +21,7 @@ abbrev pub roundBy : List Subobject → Search → Round
 roundBy exclusions S = roundIf (someDesired exclusions && isEmpty (admissible S))
 
 unfoldable pub roundOf : Request → List Stop → Round
-roundOf r sequence = roundBy (subobjects (r .exclude)) (searchIn First r sequence)
+roundOf r sequence = roundBy (allExclusions (r .exclude) sequence) (searchIn First r sequence)
 
 -- the search that counts for a request: that of its round
 unfoldable pub searchOf : Request → List Stop → Search

@@ -16,17 +16,24 @@ pub record Stop : Type 0 where
   pub domain : ℕ
   pub pin : Option ℕ
 
--- an entry constraint that waits for the next new domain: the offset of its subobject, and the node
+abbrev pub stop : ℕ → Option ℕ → Stop
+stop d pin = record { domain = d; pin = pin }
+
+-- what waits for the next new domain: the offset of its subobject, and the node of an entry constraint
 pub record Waiting : Type 0 where
   pub offset : ℕ
   pub node : ℕ
 
--- how far the reading is: the current AS, the domain one is in, the sequence so far, and the entry constraint that waits
+-- how far the reading is: the current AS, the domain one is in, the sequence so far, and what waits, in the list's order
 pub record State : Type 0 where
   pub asn : ℕ
   pub here : ℕ
   pub sequence : List Stop
-  pub waiting : Option Waiting
+  pub waiting : List Waiting
+
+-- what an include list is read by, beside the ingress domain
+pub record ReadingInput : Type 0 where
+  pub domains : List Domain
 
 -- the result of a reading, or the refusal that ends it
 pub data Reading (A : Type 0) : Type 0 where
@@ -64,10 +71,18 @@ ofArea ds n a = keep (λ (d : ℕ). eqb ((domainOf ds d) .asn) n && hasArea a (d
 
 -- ---- one subobject after the other
 
+-- an entry constraint as it waits: the offset of its subobject, and its node
+abbrev pub waitingFor : ℕ → ℕ → Waiting
+waitingFor at node = record { offset = at; node = node }
+
 -- the node that waits pins the domain that is entered
-abbrev pub pinOf : Option Waiting → Option ℕ
-pinOf none = none
-pinOf (some w) = some (w .node)
+abbrev pub pinOf : List Waiting → Option ℕ
+pinOf [] = none
+pinOf (w ∷ more) = some (w .node)
+
+-- a domain as it is entered, with what waits for it
+abbrev pub stopWith : ℕ → List Waiting → Stop
+stopWith d waiting = stop d (pinOf waiting)
 
 -- a new domain at the end of the sequence
 abbrev pub added : State → ℕ → State
@@ -75,8 +90,8 @@ added st d =
     record {
       asn = st .asn;
       here = d;
-      sequence = st .sequence ++ (record { domain = d; pin = pinOf (st .waiting) } ∷ []);
-      waiting = none;
+      sequence = st .sequence ++ (stopWith d (st .waiting) ∷ []);
+      waiting = [];
     }
 
 -- Naming the domain one is in adds nothing. A domain that comes back is 30; else a seventeenth is 31.
@@ -102,10 +117,9 @@ abbrev pub withSystem : State → ℕ → State
 withSystem st n = record { asn = n; here = st .here; sequence = st .sequence; waiting = st .waiting }
 
 -- an IPv4 subobject: its node waits for the next new domain; a second while one waits is 32
-abbrev pub wait : ℕ → State → ℕ → Option Waiting → Reading State
-wait at st node (some w) = refuse 32 at
-wait at st node none =
-    good (record { asn = st .asn; here = st .here; sequence = st .sequence; waiting = some (record { offset = at; node = node }) })
+abbrev pub wait : ℕ → State → ℕ → List Waiting → Reading State
+wait at st node (w ∷ more) = refuse 32 at
+wait at st node [] = good (record { asn = st .asn; here = st .here; sequence = st .sequence; waiting = waitingFor at node ∷ [] })
 
 abbrev pub isArea : Named → Bool
 isArea (prefix a n) = false
@@ -118,37 +132,37 @@ areaNext [] = false
 areaNext (s ∷ rest) = isArea (s .names)
 
 -- an AS sets the current AS; followed at once by an area it names no domain by itself, otherwise it names the only domain of that AS
-abbrev pub readSystem : List Domain → ℕ → State → ℕ → Bool → Reading State
-readSystem ds at st n true = good (withSystem st n)
-readSystem ds at st n false = name at (withSystem st n) (ofSystem ds n)
+abbrev pub readSystem : ReadingInput → ℕ → State → ℕ → Bool → Reading State
+readSystem R at st n true = good (withSystem st n)
+readSystem R at st n false = name at (withSystem st n) (ofSystem (R .domains) n)
 
 -- an area names the domain of the current AS that has it
-abbrev pub readNamed : List Domain → ℕ → State → Bool → Named → Reading State
-readNamed ds at st next (prefix a n) = wait at st a (st .waiting)
-readNamed ds at st next (system n) = readSystem ds at st n next
-readNamed ds at st next (area a) = name at st (ofArea ds (st .asn) a)
+abbrev pub readNamed : ReadingInput → Subobject → State → Bool → Named → Reading State
+readNamed R s st next (prefix a n) = wait (s .offset) st a (st .waiting)
+readNamed R s st next (system n) = readSystem R (s .offset) st n next
+readNamed R s st next (area a) = name (s .offset) st (ofArea (R .domains) (st .asn) a)
 
-unfoldable pub readOne : List Domain → State → Subobject → Bool → Reading State
-readOne ds st s next = readNamed ds (s .offset) st next (s .names)
+unfoldable pub readOne : ReadingInput → State → Subobject → Bool → Reading State
+readOne R st s next = readNamed R s st next (s .names)
 
 -- an entry constraint left over at the end is 32 at its own offset
-abbrev pub finish : State → Option Waiting → Reading (List Stop)
-finish st none = good (st .sequence)
-finish st (some w) = refuse 32 (w .offset)
+abbrev pub finish : State → List Waiting → Reading (List Stop)
+finish st [] = good (st .sequence)
+finish st (w ∷ more) = refuse 32 (w .offset)
 
-unfoldable pub readAll : List Domain → List Subobject → State → Reading (List Stop)
-readAll ds [] st = finish st (st .waiting)
-readAll ds (s ∷ rest) st = continue (readOne ds st s (areaNext rest)) (λ (next : State). readAll ds rest next)
+unfoldable pub readAll : ReadingInput → List Subobject → State → Reading (List Stop)
+readAll R [] st = finish st (st .waiting)
+readAll R (s ∷ rest) st = continue (readOne R st s (areaNext rest)) (λ (next : State). readAll R rest next)
 
 -- the reading starts in the ingress domain, with its AS as current
-abbrev pub startIn : List Domain → ℕ → State
-startIn ds d =
+abbrev pub startIn : ReadingInput → ℕ → State
+startIn R d =
     record {
-      asn = (domainOf ds d) .asn;
+      asn = (domainOf (R .domains) d) .asn;
       here = d;
-      sequence = record { domain = d; pin = none } ∷ [];
-      waiting = none;
+      sequence = stopWith d [] ∷ [];
+      waiting = [];
     }
 
-unfoldable pub meaning : List Domain → ℕ → List ℕ → Reading (List Stop)
-meaning ds ingress list = readAll ds (subobjects list) (startIn ds ingress)
+unfoldable pub meaning : ReadingInput → ℕ → List ℕ → Reading (List Stop)
+meaning R ingress list = readAll R (subobjects list) (startIn R ingress)

@@ -1,16 +1,16 @@
 -- Subobjects and the form of a list of them: document 01, "Subobjects". One definition for include and exclude lists, over the list kind.
-use Prim.Native.Nat.{ℕ, zero, suc, _+_, _-_, _*_, _/_, _%_}
+use Prim.Native.Nat.{ℕ, _+_, _-_, _*_, _/_, _%_}
 use mathlib.Core.Bool.{Bool, true, false, not, cond, _&&_, _||_}
-use mathlib.Core.List.{List, [], _∷_}
+use mathlib.Core.List.{List, [], _∷_, map}
 use lib.ListN.{length, getD}
 use lib.Dec.{eqb, leb, ltb}
 use Rattle.model.specs.declared.Verdict.{Verdict}
-use Rattle.model.specs.declared.Verdict.the-variants.{Pass}
 use Rattle.model.specs.declared.ListKind.{ListKind}
 use Rattle.model.specs.declared.ListKind.the-variants.{Include, Exclude}
 use Rattle.model.specs.Lists.{any}
 use Rattle.model.specs.Bytes.{number, part, allZero}
 use Rattle.model.specs.Verdict.{refuseIf, _andThen_}
+use Rattle.model.specs.Along.{checkedFrom, placesFrom}
 
 -- an area: its kind (1 OSPF, 2 IS-IS) and its bytes, as many as its length
 pub record Area : Type 0 where
@@ -29,31 +29,47 @@ pub record Subobject : Type 0 where
   pub top : Bool
   pub names : Named
 
--- ---- the length rule of each type: a fixed length, and for type 7 the area's length rounded up to 4 besides
+-- ---- the rule of each type: the lists that know it, a fixed length, for type 7 the area's length rounded up to 4 besides, and whether it can be longer
 
 pub record LengthRule : Type 0 where
   pub type : ℕ
+  pub lists : ListKind → Bool
   pub fixed : ℕ
   pub withArea : ℕ
+  pub longer : Bool
+
+abbrev pub bothKinds : ListKind → Bool
+bothKinds k = true
 
 abbrev pub lengthRules : List LengthRule
 lengthRules =
-    record { type = 1; fixed = 8; withArea = 0 }
-    ∷ record { type = 5; fixed = 8; withArea = 0 }
-    ∷ record { type = 6; fixed = 8; withArea = 0 }
-    ∷ record { type = 7; fixed = 4; withArea = 1 }
-    ∷ record { type = 32; fixed = 4; withArea = 0 }
+    record { type = 1; lists = bothKinds; fixed = 8; withArea = 0; longer = false }
+    ∷ record { type = 5; lists = bothKinds; fixed = 8; withArea = 0; longer = false }
+    ∷ record { type = 6; lists = bothKinds; fixed = 8; withArea = 0; longer = false }
+    ∷ record { type = 7; lists = bothKinds; fixed = 4; withArea = 1; longer = false }
+    ∷ record { type = 32; lists = bothKinds; fixed = 4; withArea = 0; longer = false }
     ∷ []
 
 abbrev pub roundedUp : ℕ → ℕ
 roundedUp n = (n + 3) / 4 * 4
 
-unfoldable pub known : ℕ → Bool
-known t = any (λ (r : LengthRule). eqb t (r .type)) lengthRules
+-- the rule is that of type t in such a list
+abbrev pub isRule : ListKind → ℕ → LengthRule → Bool
+isRule k t r = r .lists k && eqb t (r .type)
 
--- n is the length of a subobject of type t, whose area has length a if it has one
-unfoldable pub lengthFits : ℕ → ℕ → ℕ → Bool
-lengthFits t a n = any (λ (r : LengthRule). eqb t (r .type) && eqb n (r .fixed + r .withArea * roundedUp a)) lengthRules
+-- the length that a rule asks for where the area has length a, and whether n keeps it
+abbrev pub ruled : LengthRule → ℕ → ℕ
+ruled r a = r .fixed + r .withArea * roundedUp a
+
+abbrev pub keepsRule : LengthRule → ℕ → ℕ → Bool
+keepsRule r a n = cond (r .longer) (leb (ruled r a) n) (eqb n (ruled r a))
+
+unfoldable pub known : ListKind → ℕ → Bool
+known k t = any (isRule k t) lengthRules
+
+-- n is a length that a subobject of type t can have in such a list, whose area has length a if it has one
+unfoldable pub lengthFits : ListKind → ℕ → ℕ → ℕ → Bool
+lengthFits k t a n = any (λ (r : LengthRule). isRule k t r && keepsRule r a n) lengthRules
 
 -- ---- the fields of the subobject at an offset: the top bit and the type, the length byte, the area length of type 7
 
@@ -83,16 +99,16 @@ prefixWrong Exclude s at = ltb 32 (getD s (at + 6) 0) || not (eqb (getD s (at + 
 abbrev pub paddingWrong : List ℕ → ℕ → Bool
 paddingWrong s at = not (allZero (part s (at + 4 + areaLengthAt s at) (lengthAt s at - (4 + areaLengthAt s at))))
 
--- the form of the subobject at an offset, in document 01's order within a subobject
-unfoldable pub subobjectVerdict : ListKind → List ℕ → ℕ → Verdict
-subobjectVerdict k s at =
+-- the form of the subobject at an offset, in document 01's order within a subobject; what holds it ends at `end`
+unfoldable pub subobjectVerdict : ListKind → List ℕ → ℕ → ℕ → Verdict
+subobjectVerdict k s end at =
     let t = typeAt s at in
-    refuseIf (ltb (length s) (at + 4)) 23 at
-    andThen refuseIf (not (known t)) 24 at
+    refuseIf (ltb end (at + 4)) 23 at
+    andThen refuseIf (not (known k t)) 24 at
     andThen refuseIf (topWrong k (topAt s at)) 27 at
     andThen refuseIf (eqb t 7 && not (leb 1 (areaLengthAt s at) && leb (areaLengthAt s at) 13)) 26 at
-    andThen refuseIf (not (lengthFits t (areaLengthAt s at) (lengthAt s at))) 25 at
-    andThen refuseIf (ltb (length s) (at + lengthAt s at)) 23 at
+    andThen refuseIf (not (lengthFits k t (areaLengthAt s at) (lengthAt s at))) 25 at
+    andThen refuseIf (ltb end (at + lengthAt s at)) 23 at
     andThen refuseIf ((eqb t 1 && prefixWrong k s at) || (eqb t 7 && paddingWrong s at)) 26 at
 
 -- what the subobject at an offset names, where its form is right
@@ -108,22 +124,21 @@ namedAt s at =
 abbrev pub subobjectAt : List ℕ → ℕ → Subobject
 subobjectAt s at = record { offset = at; top = topAt s at; names = namedAt s at }
 
--- ---- a whole list: one subobject after the other, from the start to the end
+-- ---- one subobject after the other, from an offset up to an end
 
--- The form of what is left from an offset on. A right subobject has at least 4 bytes, so `fuel`, the length of the list, is enough.
-unfoldable pub formFrom : ℕ → ListKind → List ℕ → ℕ → Verdict
-formFrom zero k s at = Pass
-formFrom (suc fuel) k s at =
-    elim (ltb at (length s)) [ true ↦ subobjectVerdict k s at andThen formFrom fuel k s (at + lengthAt s at) | false ↦ Pass ]
+abbrev pub afterSubobject : List ℕ → ℕ → ℕ
+afterSubobject s at = at + lengthAt s at
 
+abbrev pub formFrom : ListKind → List ℕ → ℕ → ℕ → Verdict
+formFrom k s end at = checkedFrom (subobjectVerdict k s end) (afterSubobject s) end at
+
+-- where their form is right
+abbrev pub subobjectsFrom : List ℕ → ℕ → ℕ → List Subobject
+subobjectsFrom s end at = map (subobjectAt s) (placesFrom (afterSubobject s) end at)
+
+-- a whole list
 unfoldable pub formVerdict : ListKind → List ℕ → Verdict
-formVerdict k s = formFrom (length s) k s 0
-
--- the subobjects of a list of right form, from an offset on
-unfoldable pub subobjectsFrom : ℕ → List ℕ → ℕ → List Subobject
-subobjectsFrom zero s at = []
-subobjectsFrom (suc fuel) s at =
-    elim (ltb at (length s)) [ true ↦ subobjectAt s at ∷ subobjectsFrom fuel s (at + lengthAt s at) | false ↦ [] ]
+formVerdict k s = formFrom k s (length s) 0
 
 unfoldable pub subobjects : List ℕ → List Subobject
-subobjects s = subobjectsFrom (length s) s 0
+subobjects s = subobjectsFrom s (length s) 0

@@ -15,14 +15,15 @@ use Rattle.model.specs.declared.TreeEntry.{TreeEntry}
 use Rattle.model.specs.Lists.{countFrom, keep, all, any, each, among, allDifferent, sum, least, same, below, insert, different, over}
 use Rattle.model.specs.Bytes.{number, bytesOf, allZero}
 use Rattle.model.specs.Verdict.{inTurn}
+use Rattle.model.specs.Along.{checkedAlong, placesAlong}
 use Rattle.model.specs.Reserved.{inRanges, misplaced}
 use Rattle.model.specs.Profile as Profile
 use Rattle.model.specs.Subobject as Subobject
-use Rattle.model.specs.Sequence.{Stop, Reading, refused, good, ofSystem, ofArea, enter, name, readOne, readAll, meaning}
+use Rattle.model.specs.Sequence.{Stop, stop, Reading, refused, good, ofSystem, ofArea, enter, name, readOne, readAll, meaning}
 use Rattle.model.specs.WrittenList.{writtenFrom, written, stops, unwritable}
 use Rattle.model.specs.Exclusion.{inForce, someDesired, excludedDomain, excludedNode}
 use Rattle.model.specs.Floats.{units, inRange, atLeast, atMost, floatOf}
-use Rattle.model.specs.Request.{Request, requestVerdict, sequenceOf, searchIn}
+use Rattle.model.specs.Request.{Request, requestVerdict, sequenceOf, allExclusions, searchIn}
 use Rattle.model.specs.Path as Path
 use Rattle.model.specs.Tree as Tree
 use Rattle.model.specs.Rounds.{roundOf, searchOf}
@@ -167,7 +168,7 @@ numbers : ℕ → List ℕ → Numbers
 numbers n others = record { answer = n; others = others }
 
 through : ℕ → Stop
-through d = record { domain = d; pin = none }
+through d = stop d none
 
 at : ℕ → ℕ → ℕ → TreeEntry
 at level node cost = record { level = level; address = record { 0 = node }; reachable = true; cost = cost }
@@ -337,5 +338,5 @@ table = starred ++ desired ++ wide ++ prefixes
 
 -- every row holds
 pub worked-cases : map (λ (r : Row). outcome (r .case)) table ≡ map (λ (r : Row). r .expected) table
-unfolding profileW profileOspf toEnd toEnd5 throughU back without desiredWithout desiredWithout64511 plain bounded above100 onW short whole alone bookOf outcome numbers through at cut costs14 treeW calls givesIn gives ends none-there SPUZ SPTZ SQTZ SQUZ three no-path row starred desired dearer onDearer spuz wide around prefixes table countFrom keep all any each among allDifferent sum least same below insert different over number bytesOf allZero inTurn inRanges misplaced Profile.headerWrong Profile.countsWrong Profile.lengthWrong Profile.headerVerdict Profile.domainAt Profile.domains Profile.areaLengthFits Profile.domainMalformed Profile.domainMisordered Profile.domainVerdict Profile.hopAt Profile.hops Profile.hopMalformed Profile.hopMisordered Profile.hopVerdict Profile.entryNodes Profile.crowded Profile.crowdedVerdict Profile.profileVerdict Subobject.known Subobject.lengthFits Subobject.subobjectVerdict Subobject.namedAt Subobject.formFrom Subobject.formVerdict Subobject.subobjectsFrom Subobject.subobjects ofSystem ofArea enter name readOne readAll meaning writtenFrom written stops unwritable inForce someDesired excludedDomain excludedNode units inRange atLeast atMost floatOf requestVerdict sequenceOf searchIn roundOf searchOf Path.legs Path.keepsBound Path.allowed Path.hopsFrom Path.suffixes Path.paths Path.admissible Path.cheapest Path.shortestPaths Tree.entriesAt Tree.entry Tree.tree Tree.tally readingOf readInclude writeList buildTree first greaterThan next book run ofBits toBits ofFields odd size span climb ofInt round isNan Ieee.units trailingZeros
+unfolding profileW profileOspf toEnd toEnd5 throughU back without desiredWithout desiredWithout64511 plain bounded above100 onW short whole alone bookOf outcome numbers through at cut costs14 treeW calls givesIn gives ends none-there SPUZ SPTZ SQTZ SQUZ three no-path row starred desired dearer onDearer spuz wide around prefixes table countFrom keep all any each among allDifferent sum least same below insert different over number bytesOf allZero inTurn inRanges misplaced Profile.headerWrong Profile.countsWrong Profile.lengthWrong Profile.headerVerdict Profile.domainAt Profile.domains Profile.areaLengthFits Profile.domainMalformed Profile.domainMisordered Profile.domainVerdict Profile.hopAt Profile.hops Profile.hopMalformed Profile.hopMisordered Profile.hopVerdict Profile.entryNodes Profile.crowded Profile.crowdedVerdict Profile.profileVerdict Subobject.known Subobject.lengthFits Subobject.subobjectVerdict Subobject.namedAt checkedAlong placesAlong Subobject.formVerdict Subobject.subobjects ofSystem ofArea enter name readOne readAll meaning writtenFrom written stops unwritable inForce someDesired excludedDomain excludedNode units inRange atLeast atMost floatOf requestVerdict sequenceOf allExclusions searchIn roundOf searchOf Path.legs Path.keepsBound Path.exclusionsAt Path.allowed Path.hopsFrom Path.suffixes Path.paths Path.admissible Path.cheapest Path.shortestPaths Tree.entriesAt Tree.entry Tree.tree Tree.tally readingOf readInclude writeList buildTree first greaterThan next book run ofBits toBits ofFields odd size span climb ofInt round isNan Ieee.units trailingZeros Profile.layoutIn
 worked-cases = refl

@@ -14,12 +14,13 @@ use Rattle.model.specs.declared.Hop.{Hop}
 use Rattle.model.specs.declared.Limits.{Limits}
 use Rattle.model.specs.Lists.{any, countFrom}
 use Rattle.model.specs.Bytes.{number}
-use Rattle.model.specs.Profile.{version1, domainAt, domains, hopAt, hops}
+use Rattle.model.specs.Profile.{layoutIn, domainAt, domains, hopAt, hops}
 use Rattle.model.specs.Subobject.{Subobject, prefix, system}
+use Rattle.model.specs.Sequence.{stop}
 use Rattle.model.specs.Exclusion.{excludedDomain, excludedNode}
 use Rattle.model.specs.Floats.{units, atLeast}
 use Rattle.model.specs.Request.{Search}
-use Rattle.model.specs.Path.{Leg, legs, usable, legAt, Step, IsWay, IsPath, leads}
+use Rattle.model.specs.Path.{Leg, legs, usable, legAt, exclusionsAt, Step, IsWay, IsPath, leads}
 use Rattle.model.specs.WorkedCases.{profileW}
 
 -- ---- W's search from S to Z: domain 2 with an entry constraint or none, some exclusions, and the bandwidth that is asked for
@@ -31,8 +32,8 @@ unfoldable pub onW : Option ℕ → List Subobject → ℕ → Search
 onW pin exclusions bits =
     record {
       domains = domains profileW;
-      hops = hops version1 profileW;
-      sequence = record { domain = 0; pin = none } ∷ record { domain = 1; pin = none } ∷ record { domain = 2; pin = pin } ∷ [];
+      hops = hops (layoutIn profileW) profileW;
+      sequence = stop 0 none ∷ stop 1 none ∷ stop 2 pin ∷ [];
       exclusions = exclusions;
       source = 0xc0000201;
       destination = 0xc0000263;
@@ -60,14 +61,15 @@ both false b h k = absurd (false≢true h)
 
 step-found : (S : Search) (leg : Leg) (a b : ℕ) → Step S leg a b → any (λ (h : Hop). leads leg a b h && usable S h) (S .hops) ≡ true
 step-found S leg a b s =
-    found (λ (h : Hop). leads leg a b h && usable S h) (s .recorded)
-    (both _ _ (both _ _ (s .onLeg) (both _ _ (eq-eqb _ a (s .tail)) (eq-eqb _ b (s .head)))) (s .usable))
+    let c = s .crossing in
+    found (λ (h : Hop). leads leg a b h && usable S h) (c .recorded)
+    (both _ _ (both _ _ (c .onLeg) (both _ _ (eq-eqb _ a (c .tail)) (eq-eqb _ b (c .head)))) (s .usable))
 
 -- ---- the rows
 
 -- no hop record from Q to U has a bandwidth above 100.0
 none-wide : any (λ (h : Hop). leads (legAt (onW none [] 0x42c80001) 1) 0xc000020c 0xc0000216 h && usable (onW none [] 0x42c80001) h) ((onW none [] 0x42c80001) .hops) ≡ false
-unfolding onW profileW legs hops hopAt countFrom number any atLeast units ofBits ofFields odd size span climb isNan Ieee.units trailingZeros
+unfolding onW profileW legs layoutIn hops hopAt countFrom number any atLeast units ofBits ofFields odd size span climb isNan Ieee.units trailingZeros
 none-wide = refl
 
 -- so SQUZ is no path where a bandwidth just above 100.0 is asked for
@@ -87,12 +89,12 @@ abbrev as64498 : Subobject
 as64498 = record { offset = 0; top = false; names = system 64498 }
 
 pub domain-excluded : IsWay (onW none (as64498 ∷ []) 0x42c80000) 2 0xc0000215 (0xc0000215 ∷ 0xc0000263 ∷ []) → ⊥
-unfolding onW excludedDomain any profileW domains domainAt countFrom number
+unfolding onW exclusionsAt excludedDomain any profileW domains domainAt countFrom number
 domain-excluded x = true≢false (x .domains 0 (omega arith))
 
 abbrev entryT : Subobject
 entryT = record { offset = 0; top = false; names = prefix 0xc0000215 32 }
 
 pub entry-excluded : IsWay (onW none (entryT ∷ []) 0x42c80000) 2 0xc0000215 (0xc0000215 ∷ 0xc0000263 ∷ []) → ⊥
-unfolding onW excludedNode any
+unfolding onW exclusionsAt excludedNode any
 entry-excluded x = true≢false (x .nodes 0 (omega arith))

@@ -9,7 +9,7 @@ use Rattle.model.specs.declared.Domain.{Domain}
 use Rattle.model.specs.Lists.{any, allDifferent}
 use Rattle.model.specs.Bytes.{bytesOf}
 use Rattle.model.specs.Subobject.{roundedUp}
-use Rattle.model.specs.Sequence.{Stop, domainOf}
+use Rattle.model.specs.Sequence.{Stop, stop, domainOf}
 
 -- ---- the subobjects that are written; top bits and ignored bytes are 0
 
@@ -62,7 +62,7 @@ unfoldable pub stops : List ℕ → List ℕ → List ℕ → List Stop
 stops [] marks nodes = []
 stops (d ∷ ds) [] nodes = []
 stops (d ∷ ds) (m ∷ ms) [] = []
-stops (d ∷ ds) (m ∷ ms) (n ∷ ns) = record { domain = d; pin = pinIf m n } ∷ stops ds ms ns
+stops (d ∷ ds) (m ∷ ms) (n ∷ ns) = stop d (pinIf m n) ∷ stops ds ms ns
 
 -- the first domain has an entry constraint
 abbrev pub firstPinned : List ℕ → Bool

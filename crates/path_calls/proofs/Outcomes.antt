@@ -7,15 +7,12 @@ use native.Mathlib.Omega.{arith}
 use lib.Dec.{eqb}
 use lib.ListN.{length}
 use borrow.Author.Tests.{eq-eqb, ne-eqb, lt-ltb, le-ltb}
-use Rattle.model.specs.declared.DomainIndex.{DomainIndex}
-use Rattle.model.specs.declared.NodeAddress.{NodeAddress}
-use Rattle.model.specs.declared.Limits.{Limits}
 use Rattle.model.specs.declared.Refusal.{Refusal}
 use Rattle.model.specs.declared.Round.{Round}
 use Rattle.model.specs.declared.Verdict.the-variants.{Pass, Refuse}
 use Rattle.model.specs.Lists.{below}
 use Rattle.model.specs.Verdict.{refuseIf, _andThen_}
-use Rattle.model.specs.Profile.{version1}
+use Rattle.model.specs.Profile.{layoutIn}
 use Rattle.model.specs.Sequence.{Stop, Reading}
 use Rattle.model.specs.Request.{Request, Search}
 use Rattle.model.specs.Path.{legs, keepsBound, Route, paths, admissible, shortestPaths}
@@ -24,9 +21,10 @@ use Rattle.model.specs.Calls.{nothing, firstOf, answerPath, roomVerdict, pathLe
 use Rattle.laws.proofs.Lists.{keep-all, keep-mem}
 use Rattle.laws.proofs.Suffixes.{suffix-begins}
 use Rattle.laws.proofs.Cheapest.{cheapest-mem}
+use Rattle.request.specs.declared.Asked.{Asked}
 use Rattle.request.specs.declared.CheckedRequest.{CheckedRequest}
 use Rattle.request.specs.Query.{queryStops, searchFor, inRound, roundFor}
-use Rattle.request.specs.CheckedRequest.{requestOf, RequestIs}
+use Rattle.request.specs.CheckedRequest.{requestFor, RequestIs}
 use Rattle.request.proofs.Requests.{refused-request, accepted-request, round-request, search-request}
 use Rattle.tree_vspt.proofs.Sequences.{stops-long}
 
@@ -40,15 +38,15 @@ all-above-nothing S =
     let n = (keep-mem (λ (p : Route). keepsBound (S .limits) (p .total)) (paths S) k) .0 in
     ap (below []) ((suffix-begins S (legs (S .sequence)) 0 (S .source) r n) .1))
 
-module _ (P : List ℕ) (ingress : DomainIndex) (source destination : NodeAddress) (I E : List ℕ) (limits : Limits) (r : CheckedRequest) (is : RequestIs P ingress source destination I E limits r) where
+module _ (P : List ℕ) (asked : Asked) (I E : List ℕ) (r : CheckedRequest) (is : RequestIs P asked I E r) where
   abbrev req : Request
-  req = requestOf P (ingress .0) (source .0) (destination .0) I E limits
+  req = requestFor P asked I E
 
   abbrev x : Round
-  x = roundFor version1 P E (r .query)
+  x = roundFor (layoutIn P) P E (r .query)
 
   abbrev S : Search
-  S = searchFor version1 P E (inRound x (r .query))
+  S = searchFor (layoutIn P) P E (inRound x (r .query))
 
   needed : pathLength (queryStops (r .query)) ≡ suc (r .query .count)
   needed = ap suc (stops-long (r .query))
@@ -56,13 +54,13 @@ module _ (P : List ℕ) (ingress : DomainIndex) (source destination : NodeAddres
   module _ (room : ℕ) where
     pub first-refused : (why : Refusal) → r .verdict ≡ Refuse why → first req room ≡ nothing (refused4 why)
     unfolding first
-    first-refused why e = ap (λ (y : Reading (List Stop)). firstInto req y room) (refused-request P ingress source destination I E limits r is why e)
+    first-refused why e = ap (λ (y : Reading (List Stop)). firstInto req y room) (refused-request P asked I E r is why e)
 
     first-accepted : r .verdict ≡ Pass → first req room ≡ answerPath (roomVerdict (suc (r .query .count)) room) x 1 (shortestPaths S)
     unfolding first
     first-accepted e =
-        ap (λ (y : Reading (List Stop)). firstInto req y room) (accepted-request P ingress source destination I E limits r is e)
-        ∙ (λ j. answerPath (roomVerdict (needed j) room) (round-request P ingress source destination I E limits r is j) 1 (shortestPaths (search-request P ingress source destination I E limits r is j)))
+        ap (λ (y : Reading (List Stop)). firstInto req y room) (accepted-request P asked I E r is e)
+        ∙ (λ j. answerPath (roomVerdict (needed j) room) (round-request P asked I E r is j) 1 (shortestPaths (search-request P asked I E r is j)))
 
     pub first-small : r .verdict ≡ Pass → room ≤ r .query .count → first req room ≡ nothing (refused4 (record { number = 34; place = 0 }))
     first-small e h =
@@ -77,7 +75,7 @@ module _ (P : List ℕ) (ingress : DomainIndex) (source destination : NodeAddres
     module _ (given : List ℕ) where
       pub next-refused : (why : Refusal) → r .verdict ≡ Refuse why → next req given room ≡ nothing (refused4 why)
       unfolding next
-      next-refused why e = ap (λ (y : Reading (List Stop)). nextInto req y given room) (refused-request P ingress source destination I E limits r is why e)
+      next-refused why e = ap (λ (y : Reading (List Stop)). nextInto req y given room) (refused-request P asked I E r is why e)
 
       next-accepted
           : r .verdict ≡ Pass
@@ -85,10 +83,10 @@ module _ (P : List ℕ) (ingress : DomainIndex) (source destination : NodeAddres
           ≡ answerPath (refuseIf (not (eqb (length given) (suc (r .query .count)))) 33 0 andThen roomVerdict (suc (r .query .count)) room) x 2 (greaterThan given (shortestPaths S))
       unfolding next
       next-accepted e =
-          ap (λ (y : Reading (List Stop)). nextInto req y given room) (accepted-request P ingress source destination I E limits r is e)
+          ap (λ (y : Reading (List Stop)). nextInto req y given room) (accepted-request P asked I E r is e)
           ∙ (λ j.
-          answerPath (refuseIf (not (eqb (length given) (needed j))) 33 0 andThen roomVerdict (needed j) room) (round-request P ingress source destination I E limits r is j) 2
-          (greaterThan given (shortestPaths (search-request P ingress source destination I E limits r is j))))
+          answerPath (refuseIf (not (eqb (length given) (needed j))) 33 0 andThen roomVerdict (needed j) room) (round-request P asked I E r is j) 2
+          (greaterThan given (shortestPaths (search-request P asked I E r is j))))
 
       pub next-unfit
           : r .verdict ≡ Pass → (length given ≡ suc (r .query .count) → ⊥) → next req given room ≡ nothing (refused4 (record { number = 33; place = 0 }))

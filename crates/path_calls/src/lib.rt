@@ -2,18 +2,16 @@
 use crate::routes::first_route;
 use crate::routes::next_route;
 use buffers::put_first;
-use model::DomainIndex;
-use model::Limits;
-use model::NodeAddress;
 use model::PathAnswer;
 use path_answers::PathReply;
+use request::Asked;
 ghost use mathlib.Core.Path.{_≡_};
 ghost use Prim.Native.Nat.{_≤_};
 ghost use lib.ListN.{length, take};
 ghost use Rattle.model.specs.Lists.{over};
 ghost use Rattle.model.specs.Answers.{numbersOfPath};
 ghost use Rattle.model.specs.Calls as Calls;
-ghost use Rattle.request.specs.CheckedRequest.{requestOf};
+ghost use Rattle.request.specs.CheckedRequest.{requestFor};
 ghost use Rattle.path_answers.specs.Numbers.{Real};
 
 pub mod routes;
@@ -31,57 +29,32 @@ fn hand_out(reply: PathReply, path: &mut [u32]) -> PathAnswer
 // The first of the shortest paths, or why there is none.
 pub fn first(
     profile: &[u8],
-    ingress: DomainIndex,
-    source: NodeAddress,
-    destination: NodeAddress,
+    asked: Asked,
     include: &[u8],
     exclude: &[u8],
-    limits: Limits,
     path: &mut [u32],
 ) -> PathAnswer
     ensures { λ r. ⌜ Real r ⌝ }
-    ensures { λ r. ⌜ numbersOfPath r ≡ (Calls.first (requestOf (now (profile .entry)) (ingress .0) (source .0) (destination .0) (now (include .entry)) (now (exclude .entry)) limits) (length (now (path .entry)))) .numbers ⌝ }
-    ensures { λ _. ⌜ now (path .exit) ≡ over ((Calls.first (requestOf (now (profile .entry)) (ingress .0) (source .0) (destination .0) (now (include .entry)) (now (exclude .entry)) limits) (length (now (path .entry)))) .written) (now (path .entry)) ⌝ }
+    ensures { λ r. ⌜ numbersOfPath r ≡ (Calls.first (requestFor (now (profile .entry)) asked (now (include .entry)) (now (exclude .entry))) (length (now (path .entry)))) .numbers ⌝ }
+    ensures { λ _. ⌜ now (path .exit) ≡ over ((Calls.first (requestFor (now (profile .entry)) asked (now (include .entry)) (now (exclude .entry))) (length (now (path .entry)))) .written) (now (path .entry)) ⌝ }
 {
-    let reply = first_route(
-        profile,
-        ingress,
-        source,
-        destination,
-        include,
-        exclude,
-        limits,
-        path.len(),
-    );
+    let reply = first_route(profile, asked, include, exclude, path.len());
     hand_out(reply, path)
 }
 
 // The next of the shortest paths after a given list, which need not be a path.
 pub fn next(
     profile: &[u8],
-    ingress: DomainIndex,
-    source: NodeAddress,
-    destination: NodeAddress,
+    asked: Asked,
     include: &[u8],
     exclude: &[u8],
-    limits: Limits,
     given: &[u32],
     path: &mut [u32],
 ) -> PathAnswer
     ensures { λ r. ⌜ Real r ⌝ }
-    ensures { λ r. ⌜ numbersOfPath r ≡ (Calls.next (requestOf (now (profile .entry)) (ingress .0) (source .0) (destination .0) (now (include .entry)) (now (exclude .entry)) limits) (now (given .entry)) (length (now (path .entry)))) .numbers ⌝ }
-    ensures { λ _. ⌜ now (path .exit) ≡ over ((Calls.next (requestOf (now (profile .entry)) (ingress .0) (source .0) (destination .0) (now (include .entry)) (now (exclude .entry)) limits) (now (given .entry)) (length (now (path .entry)))) .written) (now (path .entry)) ⌝ }
+    ensures { λ r. ⌜ numbersOfPath r ≡ (Calls.next (requestFor (now (profile .entry)) asked (now (include .entry)) (now (exclude .entry))) (now (given .entry)) (length (now (path .entry)))) .numbers ⌝ }
+    ensures { λ _. ⌜ now (path .exit) ≡ over ((Calls.next (requestFor (now (profile .entry)) asked (now (include .entry)) (now (exclude .entry))) (now (given .entry)) (length (now (path .entry)))) .written) (now (path .entry)) ⌝ }
 {
-    let reply = next_route(
-        profile,
-        ingress,
-        source,
-        destination,
-        include,
-        exclude,
-        limits,
-        given,
-        path.len(),
-    );
+    let reply = next_route(profile, asked, include, exclude, given, path.len());
     hand_out(reply, path)
 }

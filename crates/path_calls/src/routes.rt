@@ -1,32 +1,30 @@
 // First and next by value: the checks in document 01's order, then the search.
-use model::DomainIndex;
-use model::Limits;
-use model::NodeAddress;
 use model::Verdict;
 use path_answers::PathReply;
 use path_answers::answered;
 use path_answers::refused;
 use path_answers::refused_by;
 use path_search::search;
-use profile_records::layout::first_version;
+use profile_records::layout::layout_in;
+use request::Asked;
 use request::Query;
 use request::check_request;
 ghost use mathlib.Core.Path.{_≡_};
 ghost use Prim.Native.Nat.{ℕ, suc, _≤_};
 ghost use lib.ListN.{length};
 ghost use Rattle.model.specs.Path.{shortestPaths};
-ghost use Rattle.model.specs.Profile.{version1};
+ghost use Rattle.model.specs.Profile.{layoutIn};
 ghost use Rattle.model.specs.Calls.{firstOf, greaterThan, first, next};
-ghost use Rattle.request.specs.CheckedRequest.{requestOf};
+ghost use Rattle.request.specs.CheckedRequest.{requestFor};
 ghost use Rattle.request.specs.Query.{searchFor, inRound, roundFor, Ready};
 ghost use Rattle.path_answers.specs.PathReply.{noneNumber, ReplyIs};
 
 // The answer for a request that passed its checks: the first of the shortest paths above the given list, in the round that applies.
 fn sought_route(profile: &[u8], exclude: &[u8], q: Query, given: &[u32], again: bool) -> PathReply
-    requires { ⌜ Ready version1 (now profile) (now exclude) q × (1 ≤ length (now given) → length (now given) ≡ suc (q .count)) ⌝ }
-    ensures { λ x. ⌜ ((room : ℕ) → suc (q .count) ≤ room → ReplyIs (firstOf (roundFor version1 (now (profile .entry)) (now (exclude .entry)) q) (noneNumber again) (greaterThan (now (given .entry)) (shortestPaths (searchFor version1 (now (profile .entry)) (now (exclude .entry)) (inRound (roundFor version1 (now (profile .entry)) (now (exclude .entry)) q) q))))) room x) ⌝ }
+    requires { ⌜ Ready (layoutIn (now profile)) (now profile) (now exclude) q × (1 ≤ length (now given) → length (now given) ≡ suc (q .count)) ⌝ }
+    ensures { λ x. ⌜ ((room : ℕ) → suc (q .count) ≤ room → ReplyIs (firstOf (roundFor (layoutIn (now (profile .entry))) (now (profile .entry)) (now (exclude .entry)) q) (noneNumber again) (greaterThan (now (given .entry)) (shortestPaths (searchFor (layoutIn (now (profile .entry))) (now (profile .entry)) (now (exclude .entry)) (inRound (roundFor (layoutIn (now (profile .entry))) (now (profile .entry)) (now (exclude .entry)) q) q))))) room x) ⌝ }
 {
-    let layout = first_version();
+    let layout = layout_in(profile);
     let sought = search(profile, layout, exclude, q, given);
     answered(sought, q.count, again)
 }
@@ -34,25 +32,14 @@ fn sought_route(profile: &[u8], exclude: &[u8], q: Query, given: &[u32], again: 
 // The first of the shortest paths, with room for so many addresses.
 pub fn first_route(
     profile: &[u8],
-    ingress: DomainIndex,
-    source: NodeAddress,
-    destination: NodeAddress,
+    asked: Asked,
     include: &[u8],
     exclude: &[u8],
-    limits: Limits,
     room: usize,
 ) -> PathReply
-    ensures { λ x. ⌜ ReplyIs (first (requestOf (now (profile .entry)) (ingress .0) (source .0) (destination .0) (now (include .entry)) (now (exclude .entry)) limits) room) room x ⌝ }
+    ensures { λ x. ⌜ ReplyIs (first (requestFor (now (profile .entry)) asked (now (include .entry)) (now (exclude .entry))) room) room x ⌝ }
 {
-    let checked = check_request(
-        profile,
-        ingress,
-        source,
-        destination,
-        include,
-        exclude,
-        limits,
-    );
+    let checked = check_request(profile, asked, include, exclude);
     let verdict = checked.verdict;
     if let Verdict::Refuse(r) = verdict {
         return refused(r);
@@ -68,26 +55,15 @@ pub fn first_route(
 // The next of the shortest paths after a given list of addresses, whether or not that is itself a path.
 pub fn next_route(
     profile: &[u8],
-    ingress: DomainIndex,
-    source: NodeAddress,
-    destination: NodeAddress,
+    asked: Asked,
     include: &[u8],
     exclude: &[u8],
-    limits: Limits,
     given: &[u32],
     room: usize,
 ) -> PathReply
-    ensures { λ x. ⌜ ReplyIs (next (requestOf (now (profile .entry)) (ingress .0) (source .0) (destination .0) (now (include .entry)) (now (exclude .entry)) limits) (now (given .entry)) room) room x ⌝ }
+    ensures { λ x. ⌜ ReplyIs (next (requestFor (now (profile .entry)) asked (now (include .entry)) (now (exclude .entry))) (now (given .entry)) room) room x ⌝ }
 {
-    let checked = check_request(
-        profile,
-        ingress,
-        source,
-        destination,
-        include,
-        exclude,
-        limits,
-    );
+    let checked = check_request(profile, asked, include, exclude);
     let verdict = checked.verdict;
     if let Verdict::Refuse(r) = verdict {
         return refused(r);

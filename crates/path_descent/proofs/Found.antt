@@ -137,7 +137,7 @@ module _ (S : Search) (L : Layout) (s : List ℕ) (q : Query) (addresses codes s
   legs-long i = length-drop i (legs (S .sequence)) ∙ ap (λ (n : ℕ). n - i) (length-legs (S .sequence) ∙ sequence-long)
 
   sorted : SortedHops (S .hops)
-  sorted = subst SortedHops (sym (worked .hops-are)) (hops-sorted L s (worked .bytes) (accepted L s (worked .profile-right)))
+  sorted = subst SortedHops (sym (worked .hops-are)) (hops-sorted L s (worked .bytes) (accepted L s (worked .right .passed)))
 
   legs-here : (i : ℕ) → i < q .count → legsFrom S i ≡ legAt S i ∷ legsFrom S (suc i)
   legs-here i h = legs-left S i (omega (arith, sequence-long))

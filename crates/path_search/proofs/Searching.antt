@@ -46,15 +46,13 @@ use Rattle.path_search.specs.Searched.{ResultFor}
 -- what was worked out for a ready query
 pub worked-for
     : (L : Layout) (s exclude : List ℕ) (q : Query) (addresses codes starts firsts lasts : List ℕ) (examined : ℕ)
-    → SoundLayout L → L .mostCost ≤ costLimit → ((i : ℕ) → getD s i 0 < 256) → Ready L s exclude q
+    → SoundLayout L → ((i : ℕ) → getD s i 0 < 256) → Ready L s exclude q
     → WorkedOut L s (searchFor L s exclude q) addresses codes starts firsts lasts examined
     → Worked (searchFor L s exclude q) L s q addresses codes starts firsts lasts
-worked-for L s exclude q addresses codes starts firsts lasts examined sound cheap bytes ready out =
+worked-for L s exclude q addresses codes starts firsts lasts examined sound bytes ready out =
     record {
-      sound = sound;
+      right = record { layout = sound; passed = ready .profile-right };
       bytes = bytes;
-      cheap = cheap;
-      profile-right = ready .profile-right;
       bandwidth-right = ready .bandwidth-right;
       hops-are = refl;
       sequence-is = refl;

@@ -12,7 +12,6 @@ use tree_rounds::settle;
 ghost use mathlib.Core.Path.{_≡_};
 ghost use Prim.Native.Nat.{suc, _≤_, _<_};
 ghost use lib.ListN.{length};
-ghost use Rattle.model.specs.Profile.{costLimit};
 ghost use Rattle.model.specs.Request.{Search};
 ghost use Rattle.laws.specs.Descent.{nextFrom};
 ghost use Rattle.profile_records.specs.Layout.{layoutOf, SoundLayout};
@@ -106,7 +105,7 @@ fn above(
 
 // The first of the shortest paths above the given list, in the round that applies; of all where the list is empty.
 pub fn search(s: &[u8], layout: Layout, exclude: &[u8], q: Query, given: &[u32]) -> SearchResult
-    requires { ⌜ SoundLayout (layoutOf layout) × (layoutOf layout .mostCost ≤ costLimit) × Ready (layoutOf layout) (now s) (now exclude) q ⌝ }
+    requires { ⌜ SoundLayout (layoutOf layout) × Ready (layoutOf layout) (now s) (now exclude) q ⌝ }
     requires { ⌜ (1 ≤ length (now given) → length (now given) ≡ suc (q .count)) ⌝ }
     ensures { λ r. ⌜ ResultFor (layoutOf layout) (now (s .entry)) (now (exclude .entry)) q (now (given .entry)) r ⌝ }
 {

@@ -1,10 +1,8 @@
 // A series of calls for first and next on one request, each next given a copy of the path last handed out.
 use crate::calls::make_calls;
 use crate::form::malformed;
-use model::DomainIndex;
-use model::Limits;
-use model::NodeAddress;
-ghost use Rattle.request.specs.CheckedRequest.{requestOf};
+use request::Asked;
+ghost use Rattle.request.specs.CheckedRequest.{requestFor};
 ghost use Rattle.path_series.specs.Runs.{RunIs};
 
 pub mod calls;
@@ -19,30 +17,24 @@ pub enum SeriesAnswer {
 // Makes the calls: kinds[j] is 0 for a first and 1 for a next; the buffers lie back to back, of sizes[j] addresses; five numbers for each call.
 pub fn run(
     profile: &[u8],
-    ingress: DomainIndex,
-    source: NodeAddress,
-    destination: NodeAddress,
+    asked: Asked,
     include: &[u8],
     exclude: &[u8],
-    limits: Limits,
     kinds: &[u8],
     sizes: &[u32],
     buffers: &mut [u32],
     numbers: &mut [u32],
 ) -> SeriesAnswer
-    ensures { λ r. ⌜ RunIs (requestOf (now (profile .entry)) (ingress .0) (source .0) (destination .0) (now (include .entry)) (now (exclude .entry)) limits) (now (kinds .entry)) (now (sizes .entry)) (now (buffers .entry)) (now (numbers .entry)) r (now (buffers .exit)) (now (numbers .exit)) ⌝ }
+    ensures { λ r. ⌜ RunIs (requestFor (now (profile .entry)) asked (now (include .entry)) (now (exclude .entry))) (now (kinds .entry)) (now (sizes .entry)) (now (buffers .entry)) (now (numbers .entry)) r (now (buffers .exit)) (now (numbers .exit)) ⌝ }
 {
     if malformed(kinds, sizes, buffers.len(), numbers.len()) {
         return SeriesAnswer::Malformed;
     }
     make_calls(
         profile,
-        ingress,
-        source,
-        destination,
+        asked,
         include,
         exclude,
-        limits,
         kinds,
         sizes,
         buffers,

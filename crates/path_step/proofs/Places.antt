@@ -63,8 +63,8 @@ module _
 
     pub cheap : (x : Hop) → List·Memᴰ x (S .hops) → x .cost ≤ costLimit
     cheap x m =
-        let k = accepted-costs L s (w .profile-right) x (subst (λ (hs : List Hop). List·Memᴰ x hs) (w .hops-are) m) in
-        omega (arith, w .cheap)
+        let k = accepted-costs L s (w .right .passed) x (subst (λ (hs : List Hop). List·Memᴰ x hs) (w .hops-are) m) in
+        omega (arith, w .right .layout .cheap)
 
     pub leg-is : legAt S i ≡ record { from = queryDomain q i; to = queryDomain q (nextPlace (q .count) i) }
     leg-is = ap (λ (l : List Stop). getD (legs l) i noLeg) (w .sequence-is) ∙ leg-of q i h

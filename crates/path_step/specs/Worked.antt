@@ -4,11 +4,10 @@ use mathlib.Core.Bool.{true}
 use mathlib.Core.List.{List}
 use Prim.Native.Nat.{ℕ, _≤_, _<_}
 use lib.ListN.{length, getD}
-use Rattle.model.specs.declared.Verdict.the-variants.{Pass}
 use Rattle.model.specs.Floats.{inRange}
-use Rattle.model.specs.Profile.{Layout, hops, profileVerdict, costLimit}
+use Rattle.model.specs.Profile.{Layout, hops}
 use Rattle.model.specs.Request.{Search}
-use Rattle.profile_records.specs.Layout.{SoundLayout}
+use Rattle.profile_records.specs.Layout.{RightProfile}
 use Rattle.request.specs.declared.Query.{Query}
 use Rattle.request.specs.Query.{queryStops}
 use Rattle.tree_reaches.specs.Reaches.{unreachable, codeAt}
@@ -16,10 +15,8 @@ use Rattle.tree_vspt.specs.Tree.{WorkedOut}
 
 -- a right profile, a query and the five lists of the tree, for one search
 pub record Worked (S : Search) (L : Layout) (s : List ℕ) (q : Query) (addresses codes starts firsts lasts : List ℕ) : Type 0 where
-  pub sound : SoundLayout L
+  pub right : RightProfile L s
   pub bytes : (i : ℕ) → getD s i 0 < 256
-  pub cheap : L .mostCost ≤ costLimit
-  pub profile-right : profileVerdict L s ≡ Pass
   pub bandwidth-right : inRange (q .limits .bandwidth) ≡ true
   pub hops-are : S .hops ≡ hops L s
   pub sequence-is : S .sequence ≡ queryStops q

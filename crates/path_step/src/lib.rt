@@ -3,7 +3,7 @@ use model::Hop;
 use model::NodeAddress;
 use profile_hop_range::HopRange;
 use profile_hop_range::tail_range;
-use profile_records::hop::hop_at;
+use profile_records::hop::accepted_hop;
 use profile_records::layout::Layout;
 use request::Query;
 use tree_reaches::UNREACHABLE;
@@ -13,12 +13,11 @@ ghost use mathlib.Core.Path.{_≡_};
 ghost use mathlib.Core.Bool.{true, false};
 ghost use Prim.Native.Nat.{_≤_, _<_};
 ghost use lib.Seq.{slice};
-ghost use Rattle.model.specs.declared.Verdict.the-variants.{Pass};
 ghost use Rattle.model.specs.Floats.{inRange};
-ghost use Rattle.model.specs.Profile.{profileVerdict, hops, hopCount, costLimit};
+ghost use Rattle.model.specs.Profile.{hops, hopCount, costLimit};
 ghost use Rattle.model.specs.Request.{Search};
 ghost use Rattle.laws.specs.Descent.{onShortest};
-ghost use Rattle.profile_records.specs.Layout.{layoutOf, SoundLayout};
+ghost use Rattle.profile_records.specs.Layout.{layoutOf, RightProfile};
 ghost use Rattle.tree_reaches.specs.Reaches.{unreachable, reachOf, Small, beside, NextPlace};
 ghost use Rattle.path_step.specs.Worked.{Worked, Stands, Ways};
 ghost use Rattle.path_step.specs.Onward.{isWanted, isTaken, FirstTaken, OnwardIs};
@@ -109,7 +108,7 @@ fn scan(
     from: usize,
     to: usize,
 ) -> Onward
-    requires { ⌜ SoundLayout (layoutOf layout) × (layoutOf layout .mostCost ≤ costLimit) × (profileVerdict (layoutOf layout) (now s) ≡ Pass) ⌝ }
+    requires { ⌜ RightProfile (layoutOf layout) (now s) ⌝ }
     requires { ⌜ (range .first ≤ range .last) × (range .last ≤ hopCount (now s)) × (inRange asked ≡ true) × (here < unreachable) ⌝ }
     requires { ⌜ NextPlace (now addresses) (now reaches) from to ⌝ }
     ensures { λ r. ⌜ FirstTaken asked here which (slice from to (now (addresses .entry))) (slice from to (now (reaches .entry))) (slice (range .first) (range .last) (hops (layoutOf layout) (now (s .entry)))) r ⌝ }
@@ -117,7 +116,7 @@ fn scan(
     let mut i = range.first;
     let last = range.last;
     while i < last {
-        let h = hop_at(s, layout, i);
+        let h = accepted_hop(s, layout, i);
         let step = tried(h, asked, here, which, addresses, reaches, from, to);
         if step.found {
             return step;

@@ -14,12 +14,13 @@ use Rattle.model.specs.declared.Refusal.{Refusal}
 use Rattle.model.specs.declared.Verdict.{Verdict}
 use Rattle.model.specs.declared.Verdict.the-variants.{Pass, Refuse}
 use Rattle.model.specs.Verdict.{refuseIf}
-use Rattle.model.specs.Subobject.{typeAt, lengthAt, areaLengthAt, subobjectVerdict}
+use Rattle.model.specs.Along.{checkedFrom, placesFrom}
+use Rattle.model.specs.Subobject.{typeAt, lengthAt, areaLengthAt, subobjectVerdict, afterSubobject}
 use Rattle.laws.proofs.Tests.{decide, and-false}
 use Rattle.laws.proofs.Turns.{andThen-pass, refuseIf-pass}
+use Rattle.laws.proofs.Along as Along
 use Rattle.laws.proofs.Walk.{Right, right-subobject}
-use Rattle.pcep_model.specs.Pcrep.{stepVerdict, afterStep, eroVerdict, addressAt, addressesIn}
-use Rattle.pcep_laws.proofs.Along as Along
+use Rattle.pcep_model.specs.Pcrep.{stepVerdict, eroVerdict, addressAt, addressesIn}
 use Rattle.pcep_ero.proofs.Steps.{fits-1}
 
 -- what a right subobject says: it lies in the body, and has 8 bytes
@@ -45,43 +46,40 @@ module _ (e : List ℕ) where
   pub eight : (at : ℕ) → stepVerdict e at ≡ Pass → Eight e at
   unfolding stepVerdict
   eight at p =
-      let both = andThen-pass (refuseIf (leb (at + 4) (length e) && not (eqb (typeAt e at) 1)) 24 at) (subobjectVerdict Include e at) .0 p in
-      let r : Right e at = right-subobject Include e at (both .1) in
+      let both = andThen-pass (refuseIf (leb (at + 4) (length e) && not (eqb (typeAt e at) 1)) 24 at) (subobjectVerdict Include e (length e) at) .0 p in
+      let r : Right Include e (length e) at = right-subobject Include e (length e) at (both .1) in
       let head : leb (at + 4) (length e) ≡ true = le-leb (at + 4) (length e) (r .head) in
       let other = and-false (leb (at + 4) (length e)) (not (eqb (typeAt e at) 1)) (refuseIf-pass _ 24 at .0 (both .0)) head in
       let one : typeAt e at ≡ 1 = eqb-true (typeAt e at) 1 (not-false (eqb (typeAt e at) 1) other) in
       let size : lengthAt e at ≡ 8 = eqb-true (lengthAt e at) 8 (sym (fits-1 (areaLengthAt e at) (lengthAt e at)) ∙ rw one at (r .fits)) in
       record { size = size; whole = omega (arith, r .whole) }
 
-  pub further : (at : ℕ) → stepVerdict e at ≡ Pass → at < afterStep e at
+  pub further : (at : ℕ) → stepVerdict e at ≡ Pass → at < afterSubobject e at
   further at p = omega (arith, (eight at p) .size)
 
-  goes-on : (at : ℕ) → stepVerdict e at ≡ Pass → afterStep e at ≡ at + 8
+  goes-on : (at : ℕ) → stepVerdict e at ≡ Pass → afterSubobject e at ≡ at + 8
   goes-on at p = ap (λ (n : ℕ). at + n) ((eight at p) .size)
 
   -- what is left of the body from an offset on
   abbrev pub verdictLeft : ℕ → Verdict
-  verdictLeft at = Along.checkedLeft (afterStep e) (length e) (stepVerdict e) further at
+  verdictLeft at = checkedFrom (stepVerdict e) (afterSubobject e) (length e) at
 
   addressesLeft : ℕ → List ℕ
-  addressesLeft at = map (addressAt e) (Along.placesLeft (afterStep e) (length e) (stepVerdict e) further at)
-
-  pub verdict-whole : verdictLeft 0 ≡ eroVerdict e
-  verdict-whole = Along.checked-whole (afterStep e) (length e) (stepVerdict e) further (length e) 0 (omega arith)
+  addressesLeft at = map (addressAt e) (placesFrom (afterSubobject e) (length e) at)
 
   pub verdict-end : (at : ℕ) → length e ≤ at → verdictLeft at ≡ Pass
-  verdict-end = Along.checked-end (afterStep e) (length e) (stepVerdict e) further
+  verdict-end = Along.checked-end (afterSubobject e) (length e) (stepVerdict e) further
 
   module _ (at : ℕ) (h : at < length e) where
     pub verdict-refused : (r : Refusal) → stepVerdict e at ≡ Refuse r → verdictLeft at ≡ Refuse r
-    verdict-refused = Along.checked-refused (afterStep e) (length e) (stepVerdict e) further at h
+    verdict-refused = Along.checked-refused (afterSubobject e) (length e) (stepVerdict e) further at h
 
     pub verdict-next : stepVerdict e at ≡ Pass → verdictLeft at ≡ verdictLeft (at + 8)
-    verdict-next p = Along.checked-next (afterStep e) (length e) (stepVerdict e) further at h p ∙ ap verdictLeft (goes-on at p)
+    verdict-next p = Along.checked-next (afterSubobject e) (length e) (stepVerdict e) further at h p ∙ ap verdictLeft (goes-on at p)
 
     module _ (p : verdictLeft at ≡ Pass) where
       right-here : stepVerdict e at ≡ Pass
-      right-here = Along.right-here (afterStep e) (length e) (stepVerdict e) further at h p
+      right-here = Along.right-here (afterSubobject e) (length e) (stepVerdict e) further at h p
 
       right-next : verdictLeft (at + 8) ≡ Pass
       right-next = sym (verdict-next right-here) ∙ p
@@ -89,13 +87,13 @@ module _ (e : List ℕ) where
       addresses-next : addressesLeft at ≡ addressAt e at ∷ addressesLeft (at + 8)
       unfolding addressesLeft
       addresses-next =
-          ap (map (addressAt e)) (Along.places-next (afterStep e) (length e) (stepVerdict e) further at h p)
+          ap (map (addressAt e)) (Along.places-next (afterSubobject e) (length e) (stepVerdict e) further at h p)
           ∙ ap (λ (n : ℕ). addressAt e at ∷ addressesLeft n) (goes-on at right-here)
 
   end-by-eight : (at : ℕ) → length e ≡ at → ByEight e at (addressesLeft at)
   unfolding addressesLeft
   end-by-eight at h =
-      subst (ByEight e at) (sym (ap (map (addressAt e)) (Along.places-end (afterStep e) (length e) (stepVerdict e) further at (omega arith)))) (none-by-eight e at h)
+      subst (ByEight e at) (sym (ap (map (addressAt e)) (Along.places-end (afterSubobject e) (length e) (stepVerdict e) further at (omega arith)))) (none-by-eight e at h)
 
   left-by-eight : (n at : ℕ) → length e ≤ at + n → at ≤ length e → verdictLeft at ≡ Pass → ByEight e at (addressesLeft at)
   left-by-eight zero at f h p = end-by-eight at (omega arith)
@@ -115,9 +113,7 @@ module _ (e : List ℕ) where
   module _ (p : eroVerdict e ≡ Pass) where
     addresses-by-eight : ByEight e 0 (addressesIn e)
     unfolding addressesIn addressesLeft
-    addresses-by-eight =
-        subst (ByEight e 0) (ap (map (addressAt e)) (Along.places-whole (afterStep e) (length e) (stepVerdict e) further (length e) 0 (omega arith) (verdict-whole ∙ p)))
-        (left-by-eight (length e) 0 (omega arith) (omega arith) (verdict-whole ∙ p))
+    addresses-by-eight = left-by-eight (length e) 0 (omega arith) (omega arith) p
 
     -- each has 8 bytes
     pub eight-each : length e ≡ 8 * length (addressesIn e)

@@ -8,6 +8,7 @@ use native.Mathlib.Omega.{arith}
 use lib.Dec.{eqb, ltb}
 use lib.ListN.{length, getD}
 use borrow.Author.Tests.{ne-eqb, le-leb, lt-leb, lt-ltb, le-ltb}
+use Rattle.model.specs.declared.ListKind.the-variants.{Include}
 use Rattle.model.specs.declared.Verdict.{Verdict}
 use Rattle.model.specs.declared.Verdict.the-variants.{Pass}
 use Rattle.model.specs.Lists.{any}
@@ -17,11 +18,11 @@ use Rattle.refusal.specs.Refused.{refusal}
 use Rattle.pcep_model.specs.Pcrep.{stepVerdict}
 
 -- type 1 is known, and its length is 8
-known-1 : known 1 ≡ true
+known-1 : known Include 1 ≡ true
 unfolding known any
 known-1 = refl
 
-pub fits-1 : (a n : ℕ) → lengthFits 1 a n ≡ eqb n 8
+pub fits-1 : (a n : ℕ) → lengthFits Include 1 a n ≡ eqb n 8
 unfolding lengthFits any
 fits-1 a n = let e : 8 + 0 * roundedUp a ≡ 8 = omega arith in or-false (eqb n (8 + 0 * roundedUp a)) ∙ ap (eqb n) e
 

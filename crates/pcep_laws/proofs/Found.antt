@@ -1,51 +1,24 @@
--- An object found by a test stands in the message whole, and is as long as its kind is at least: by recursion along the walk that found it.
-use Prim.Native.Nat.{ℕ, zero, suc, _≤_, _<_}
+-- An object found by a test stands in the message whole, and is as long as its kind is at least: the walk that found it checked it.
+use Prim.Native.Nat.{ℕ, _-_, _≤_, _<_}
 use native.Mathlib.Omega.{arith}
-use mathlib.Core.Path.{_≡_, refl, sym, ap, subst, _∙_}
-use mathlib.Core.Logic.{⊎-elim}
-use mathlib.Core.Bool.{Bool, true, false, not, _&&_, _||_}
+use mathlib.Core.Path.{_≡_, sym, ap, _∙_}
+use mathlib.Core.Bool.{Bool, true, not, _&&_, _||_}
 use mathlib.Core.List.{List}
 use lib.ListN.{length, getD}
-use lib.Dec.{eqb, leb, ltb}
-use borrow.Author.Tests.{ltb-true, ltb-false, leb-true, eqb-true, ne-eqb}
-use Rattle.model.specs.declared.Verdict.{Verdict}
+use lib.Dec.{eqb, leb}
+use borrow.Author.Tests.{leb-true, eqb-true, ne-eqb}
 use Rattle.model.specs.declared.Verdict.the-variants.{Pass}
-use Rattle.laws.proofs.Tests.{decide, and-both}
-use Rattle.laws.proofs.Turns.{andThen-pass}
+use Rattle.model.specs.Along.{firstOf}
+use Rattle.laws.proofs.Tests.{and-both}
+use Rattle.laws.proofs.Along.{found}
 use Rattle.pcep_model.specs.declared.MessageKind.{MessageKind}
-use Rattle.pcep_model.specs.Along.{checkedAlong, placesAlong, orElse, firstOf}
 use Rattle.pcep_model.specs.Objects.{METRIC, classAt, typeAt, sizeAt, isObject, ownLength, objectVerdict, objectsVerdict, objectsIn, afterObject, firstObject}
 use Rattle.pcep_model.specs.Metrics.{wrongMetric, boundMetric}
 use Rattle.pcep_laws.specs.Left.{Stands}
 use Rattle.pcep_laws.specs.Table.{leasts, fitsLeast}
 use Rattle.pcep_laws.specs.Metrics.{hasB, isWrong}
 use Rattle.pcep_laws.proofs.Table.{own-is}
-use Rattle.pcep_laws.proofs.Along as Along
 use Rattle.pcep_laws.proofs.Objects.{right-object}
-
--- ---- what a test finds passes it, and passed the check
-
-module _ (next : ℕ → ℕ) (end : ℕ) (check : ℕ → Verdict) (test : ℕ → Bool) where
-  abbrev Found : ℕ → Type 0
-  Found x = (check x ≡ Pass) × (test x ≡ true)
-
-  pub found : (fuel at : ℕ) → checkedAlong fuel check next end at ≡ Pass → (firstOf test (placesAlong fuel next end at) ≡ 0 → ⊥) → Found (firstOf test (placesAlong fuel next end at))
-  unfolding firstOf placesAlong
-  found zero at e some = absurd (some refl)
-  found (suc fuel) at e some =
-      ⊎-elim
-      (λ (t : ltb at end ≡ true).
-      let l = ltb-true at end t in
-      let both = andThen-pass (check at) (checkedAlong fuel check next end (next at)) .0 (sym (Along.check-step next end check at fuel l) ∙ e) in
-      let is = ap (firstOf test) (Along.places-step next end at fuel l) in
-      subst Found (sym is) (here (test at) refl at (both .0) (found fuel (next at) (both .1)) (λ x. some (is ∙ x))))
-      (λ (f : ltb at end ≡ false). absurd (some (ap (firstOf test) (Along.no-places next end (suc fuel) at (ltb-false at end f)))))
-      (decide (ltb at end))
-    where
-      here
-          : (b : Bool) {later : ℕ} → test at ≡ b → (x : ℕ) → check at ≡ Pass → ((later ≡ 0 → ⊥) → Found later) → (orElse (test at) at later ≡ 0 → ⊥) → Found (orElse (test at) at later)
-      here true {later} t x pass rest some = subst (λ (b : Bool). Found (orElse b at later)) (sym t) (pass, t)
-      here false {later} f x pass rest some = subst (λ (b : Bool). Found (orElse b at later)) (sym f) (rest (λ z. some (ap (λ (b : Bool). orElse b at later) f ∙ z)))
 
 -- ---- an object of a class that is known in the message
 
@@ -68,7 +41,7 @@ module _ (k : MessageKind) (s : List ℕ) (pass : objectsVerdict k s 4 ≡ Pass)
       : (c : ℕ) (test : ℕ → Bool) → ((x : ℕ) → test x ≡ true → isObject c s x ≡ true) → 0 < getD (leasts k) c 0
       → (firstOf test (objectsIn s 4) ≡ 0 → ⊥) → Stands s (firstOf test (objectsIn s 4)) (getD (leasts k) c 0)
   first-stands c test asks known some =
-      let f = found (afterObject s) (length s) (objectVerdict k s) test (length s) 4 pass some in
+      let f = found (afterObject s) (length s) (objectVerdict k s) test (length s - 4) 4 pass some in
       stands (firstOf test (objectsIn s 4)) c known (f .0) (asks _ (f .1))
 
   pub object-stands : (c : ℕ) → 0 < getD (leasts k) c 0 → (firstObject c s ≡ 0 → ⊥) → Stands s (firstObject c s) (getD (leasts k) c 0)

@@ -1,11 +1,9 @@
 -- What the definitions of `pcep_model` imply, a module to a subject.
-pub mod Along
 pub mod Table
 pub mod Objects
 pub mod Metrics
 pub mod Found
 pub mod Message
-pub mod InARow
 pub mod WrittenLength
 pub mod WrittenObjects
 pub mod WrittenEro

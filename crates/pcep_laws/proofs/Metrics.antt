@@ -11,14 +11,14 @@ use Rattle.model.specs.Lists.{keep, keepIf}
 use Rattle.laws.proofs.Tests.{and-both}
 use Rattle.pcep_model.specs.declared.MessageKind.{MessageKind}
 use Rattle.pcep_model.specs.declared.MessageKind.the-variants.{Pcreq, Pcrep}
-use Rattle.pcep_model.specs.Along.{orElse, firstOf}
+use Rattle.model.specs.Along.{orElse, firstOf}
 use Rattle.pcep_model.specs.Objects.{METRIC, classAt, typeAt, sizeAt, isObject, ownLength, objectVerdict, objectsVerdict, objectsIn, afterObject}
 use Rattle.pcep_model.specs.Metrics.{metricAt, metrics, wrongMetric, boundMetric}
 use Rattle.pcep_laws.specs.Table.{leastOf, fitsLeast}
 use Rattle.pcep_laws.proofs.Table.{own-is}
-use Rattle.pcep_laws.proofs.Along as Along
-use Rattle.pcep_laws.proofs.Objects.{right-object, further, places-whole}
-use Rattle.pcep_laws.specs.Left.{objectsLeft, metricsLeft}
+use Rattle.laws.proofs.Along as Along
+use Rattle.pcep_laws.proofs.Objects.{right-object, further}
+use Rattle.pcep_laws.specs.Left.{metricsLeft}
 use Rattle.pcep_laws.specs.Metrics.{metricPlaces, hasB, isWrong}
 
 -- ---- a test of some of the places
@@ -53,14 +53,11 @@ module _ (s : List ℕ) where
 -- ---- along the objects
 
 module _ (k : MessageKind) (s : List ℕ) where
-  pub metrics-whole : objectsVerdict k s 4 ≡ Pass → metricsLeft s 4 ≡ metricPlaces s
-  metrics-whole e = ap (keep (isObject METRIC s)) (places-whole k s 4 e)
-
   pub metrics-end : (at : ℕ) → length s ≤ at → metricsLeft s at ≡ []
   unfolding keep
   metrics-end at h = ap (keep (isObject METRIC s)) (Along.places-end (afterObject s) (length s) (objectVerdict k s) (further k s) at h)
 
-  module _ (at : ℕ) (h : at < length s) (pass : objectsLeft k s at ≡ Pass) where
+  module _ (at : ℕ) (h : at < length s) (pass : objectsVerdict k s at ≡ Pass) where
     here : objectVerdict k s at ≡ Pass
     here = Along.right-here (afterObject s) (length s) (objectVerdict k s) (further k s) at h pass
 
@@ -93,5 +90,5 @@ module _ (k : MessageKind) (s : List ℕ) where
       pub metric-taken : metricsLeft s at ≡ at ∷ metricsLeft s (at + 12)
       metric-taken = split ∙ rw (is, metric-size) refl
 
-      pub after-metric : objectsLeft k s (at + 12) ≡ Pass
-      after-metric = ap (λ (n : ℕ). objectsLeft k s (at + n)) (sym metric-size) ∙ Along.right-next (afterObject s) (length s) (objectVerdict k s) (further k s) at h pass
+      pub after-metric : objectsVerdict k s (at + 12) ≡ Pass
+      after-metric = ap (λ (n : ℕ). objectsVerdict k s (at + n)) (sym metric-size) ∙ Along.right-next (afterObject s) (length s) (objectVerdict k s) (further k s) at h pass

@@ -1,6 +1,6 @@
 -- Of a PCReq's floats 21 at place 0 is for the BANDWIDTH and 21 at place 1 for any METRIC, whatever its flags, in document 01's place of the order: the
 -- limits that are handed on are judged as the message's floats are. By recursion on the places of the objects, none of which is 0.
-use Prim.Native.Nat.{ℕ, zero, suc, _%_, _≤_, _<_}
+use Prim.Native.Nat.{ℕ, zero, suc, _-_, _%_, _≤_, _<_}
 use native.Mathlib.Omega.{arith}
 use mathlib.Core.Path.{_≡_, refl, sym, ap, ap₂, _∙_}
 use mathlib.Core.Bool.{Bool, true, false, not, cond, _&&_, true≢false}
@@ -8,20 +8,20 @@ use mathlib.Core.List.{List, [], _∷_}
 use lib.ListN.{length}
 use lib.Dec.{eqb, ltb}
 use borrow.Author.Tests.{ltb-true, ltb-false, lt-leb, le-leb, eqb-true}
-use Rattle.model.specs.declared.ListKind.the-variants.{Include, Exclude}
 use Rattle.model.specs.declared.Verdict.{Verdict}
+use Rattle.model.specs.declared.Verdict.the-variants.{Pass}
 use Rattle.model.specs.Verdict.{refuseIf, _andThen_}
 use Rattle.model.specs.Floats.{inRange, floatOfBits}
-use Rattle.model.specs.Profile.{version1, profileVerdict}
-use Rattle.model.specs.Subobject.{formVerdict}
-use Rattle.model.specs.Request.{ingressVerdict, limitsVerdict, sizeVerdict, requestVerdict}
+use Rattle.model.specs.Profile.{verdictOn}
+use Rattle.model.specs.Request.{ingressVerdict, limitsVerdict, requestVerdict, sizesVerdict, formsVerdict, requestVerdictWith}
 use Rattle.laws.proofs.Tests.{and-both, and-false}
+use Rattle.laws.proofs.Turns.{andThen-nothing}
 use Rattle.laws.proofs.Bits.{bits-in-range}
-use Rattle.pcep_model.specs.Along.{placesAlong, orElse, firstOf}
+use Rattle.model.specs.Along.{placesAlong, orElse, firstOf}
 use Rattle.pcep_model.specs.Objects.{METRIC, isObject, afterObject, objectsIn}
 use Rattle.pcep_model.specs.Metrics.{flagsAt, valueAt, outOfRange, wrongMetric, boundMetric}
 use Rattle.pcep_model.specs.Pcreq.{bitsAt, bandwidthOf, includeExtent, excludeExtent, listIn, floatsVerdict, judgedMetric, carriedLimits, carried}
-use Rattle.pcep_laws.proofs.InARow.{Each}
+use Rattle.laws.proofs.InARow.{Each}
 
 -- ---- the first of some places that passes a test
 
@@ -90,7 +90,7 @@ countsWrong s at = not (eqb at 0) && outOfRange (bitsAt at (valueAt s at))
 
 module _ (s : List ℕ) where
   positive : Each Positive (objectsIn s 4)
-  positive = places-positive (afterObject s) (length s) (λ at. omega arith) (length s) 4 (omega arith)
+  positive = places-positive (afterObject s) (length s) (λ at. omega arith) (length s - 4) 4 (omega arith)
 
   -- one out of range that is found is out of range
   pub wrong-is-out : eqb (wrongMetric s) 0 ≡ false → outOfRange (valueAt s (wrongMetric s)) ≡ true
@@ -125,26 +125,29 @@ module _ (s : List ℕ) where
       ap₂ (λ (a b : Bool). refuseIf a 21 0 andThen refuseIf b 21 1) (bits-out (bandwidthOf s))
       (ap (λ (b : Bool). not (eqb at 0) && b) (bits-out (bitsAt at (valueAt s at))) ∙ judged (eqb (wrongMetric s) 0) refl)
 
--- the checks of the request that a PCReq carries, in document 01's order
-pub carried-verdict
-    : (profile : List ℕ) (ingress : ℕ) (s : List ℕ)
-    → requestVerdict (carried profile ingress s)
-    ≡ profileVerdict version1 profile
-    andThen ingressVerdict profile ingress
-    andThen floatsVerdict s
-    andThen sizeVerdict (listIn s (includeExtent s)) 0
-    andThen sizeVerdict (listIn s (excludeExtent s)) 1
-    andThen formVerdict Include (listIn s (includeExtent s))
-    andThen formVerdict Exclude (listIn s (excludeExtent s))
-unfolding requestVerdict
-carried-verdict profile ingress s =
-    ap
-    (λ (v : Verdict).
-    profileVerdict version1 profile
-    andThen ingressVerdict profile ingress
-    andThen v
-    andThen sizeVerdict (listIn s (includeExtent s)) 0
-    andThen sizeVerdict (listIn s (excludeExtent s)) 1
-    andThen formVerdict Include (listIn s (includeExtent s))
-    andThen formVerdict Exclude (listIn s (excludeExtent s)))
-    (metrics-judged s)
+-- the checks of the request that a PCReq carries, in document 01's order, with those of a reply beside it and alone
+module _ (profile : List ℕ) (ingress : ℕ) (s : List ℕ) where
+  abbrev include : List ℕ
+  include = listIn s (includeExtent s)
+
+  abbrev exclude : List ℕ
+  exclude = listIn s (excludeExtent s)
+
+  abbrev begin : Verdict → Verdict
+  begin floats = verdictOn profile andThen ingressVerdict profile ingress andThen floats
+
+  pub carried-with : (metrics ero : Verdict) → requestVerdictWith metrics ero (carried profile ingress s) ≡ begin (floatsVerdict s) andThen metrics andThen sizesVerdict include exclude andThen formsVerdict include exclude andThen ero
+  carried-with metrics ero = ap (λ (v : Verdict). begin v andThen metrics andThen sizesVerdict include exclude andThen formsVerdict include exclude andThen ero) (metrics-judged s)
+
+  pub carried-verdict
+      : requestVerdict (carried profile ingress s)
+      ≡ verdictOn profile
+      andThen ingressVerdict profile ingress
+      andThen floatsVerdict s
+      andThen sizesVerdict include exclude
+      andThen formsVerdict include exclude
+  unfolding requestVerdict
+  carried-verdict =
+      carried-with Pass Pass
+      ∙ andThen-nothing (begin (floatsVerdict s) andThen Pass andThen sizesVerdict include exclude andThen formsVerdict include exclude)
+      ∙ ap (λ (v : Verdict). v andThen sizesVerdict include exclude andThen formsVerdict include exclude) (andThen-nothing (begin (floatsVerdict s)))

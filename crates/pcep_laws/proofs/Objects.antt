@@ -1,8 +1,8 @@
 -- The objects of a message in turn, as a loop meets them: what a right object says of its bytes, and the first one that passes a test, found step by step.
 -- From the laws of a walk along things.
-use Prim.Native.Nat.{ℕ, _+_, _-_, _%_, _≤_, _<_}
+use Prim.Native.Nat.{ℕ, _+_, _%_, _≤_, _<_}
 use native.Mathlib.Omega.{arith}
-use mathlib.Core.Path.{_≡_, refl, sym, ap, _∙_}
+use mathlib.Core.Path.{_≡_, refl, sym, ap}
 use mathlib.Core.Bool.{Bool, true, false, not, cond, _&&_, _||_}
 use mathlib.Core.List.{List}
 use lib.ListN.{length}
@@ -12,11 +12,10 @@ use Rattle.model.specs.declared.Verdict.the-variants.{Pass}
 use Rattle.laws.proofs.Tests.{or-neither}
 use Rattle.laws.proofs.Turns.{andThen-refuseIf, refuseIf-pass}
 use Rattle.pcep_model.specs.declared.MessageKind.{MessageKind}
-use Rattle.pcep_model.specs.Along.{orElse, firstOf}
+use Rattle.model.specs.Along.{orElse, firstOf}
 use Rattle.pcep_model.specs.Objects.{classAt, typeAt, demandedAt, sizeAt, sizeWrong, knownObject, ownLength, objectVerdict, afterObject, objectsVerdict, objectsIn}
-use Rattle.pcep_laws.specs.Left.{objectsLeft, placesLeft}
 use Rattle.pcep_laws.specs.Firsts.{kept, noted}
-use Rattle.pcep_laws.proofs.Along as Along
+use Rattle.laws.proofs.Along as Along
 
 -- its header lies inside the message, and so does all of it, and its length is its own
 pub record Right (k : MessageKind) (s : List ℕ) (at : ℕ) : Type 0 where
@@ -48,20 +47,14 @@ module _ (k : MessageKind) (s : List ℕ) where
 
   -- ---- what is left from an offset on
 
-  pub objects-whole : (at : ℕ) → objectsLeft k s at ≡ objectsVerdict k s at
-  objects-whole at = Along.checked-whole (afterObject s) (length s) (objectVerdict k s) further (length s) at (omega arith)
-
-  pub places-whole : (at : ℕ) → objectsVerdict k s at ≡ Pass → placesLeft s at ≡ objectsIn s at
-  places-whole at e = Along.places-whole (afterObject s) (length s) (objectVerdict k s) further (length s) at (omega arith) (objects-whole at ∙ e)
-
   module _ (test : ℕ → Bool) where
     -- none is left at the end
-    pub first-end : (at : ℕ) → length s ≤ at → firstOf test (placesLeft s at) ≡ 0
+    pub first-end : (at : ℕ) → length s ≤ at → firstOf test (objectsIn s at) ≡ 0
     unfolding firstOf
     first-end at h = ap (firstOf test) (Along.places-end (afterObject s) (length s) (objectVerdict k s) further at h)
 
     -- the object at hand, or the first of those after it
-    pub first-next : (at : ℕ) → at < length s → objectsLeft k s at ≡ Pass → firstOf test (placesLeft s at) ≡ orElse (test at) at (firstOf test (placesLeft s (afterObject s at)))
+    pub first-next : (at : ℕ) → at < length s → objectsVerdict k s at ≡ Pass → firstOf test (objectsIn s at) ≡ orElse (test at) at (firstOf test (objectsIn s (afterObject s at)))
     unfolding firstOf
     first-next at h e = ap (firstOf test) (Along.places-next (afterObject s) (length s) (objectVerdict k s) further at h e)
 

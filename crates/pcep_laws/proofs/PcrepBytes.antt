@@ -13,7 +13,7 @@ use Rattle.pcep_model.specs.declared.MessageKind.the-variants.{Pcrep}
 use Rattle.pcep_model.specs.Objects.{RP, NO-PATH, METRIC, ERO}
 use Rattle.pcep_model.specs.Metrics.{Metric}
 use Rattle.pcep_model.specs.Pcrep.{mark, Reply, objectBytes, headerBytes, writtenStep, writtenEro, writtenNoPath, writtenMetric, writtenRoute, writtenObjects, writtenPcrep}
-use Rattle.pcep_laws.proofs.InARow.{Each}
+use Rattle.laws.proofs.InARow.{Each}
 use Rattle.pcep_laws.proofs.PcrepFits.{MetricFits, Fits}
 
 p-byte : (p : Bool) → 16 + 2 * mark p < 256

@@ -14,7 +14,7 @@ use Rattle.laws.proofs.Tests.{or-neither}
 use Rattle.laws.proofs.Turns.{andThen-refuseIf, refuseIf-pass}
 use Rattle.pcep_model.specs.Metrics.{Metric, outOfRange}
 use Rattle.pcep_model.specs.Pcrep.{Reply, writtenPcrep, writeVerdict}
-use Rattle.pcep_laws.proofs.InARow.{Each}
+use Rattle.laws.proofs.InARow.{Each}
 
 pub record MetricFits (m : Metric) : Type 0 where
   pub kind-fits : m .kind < 256

@@ -15,11 +15,11 @@ use Rattle.laws.proofs.Lists.{keep-all}
 use Rattle.laws.proofs.Numbers.{number-shift, number-bytesOf}
 use Rattle.laws.proofs.Turns.{andThen-pass, andThen-refuseIf, refuseIf-pass}
 use Rattle.pcep_model.specs.declared.MessageKind.the-variants.{Pcrep}
-use Rattle.pcep_model.specs.Along.{orElse, firstOf}
+use Rattle.model.specs.Along.{orElse, firstOf}
 use Rattle.pcep_model.specs.Objects.{RP, NO-PATH, METRIC, ERO, isObject, objectsIn, objectsVerdict, firstObject, headerWrong, messageVerdict}
 use Rattle.pcep_model.specs.Metrics.{Metric, valueAt, metricAt, metrics, outOfRange, wrongMetric}
 use Rattle.pcep_model.specs.Pcrep.{Reply, writtenMetric}
-use Rattle.pcep_laws.proofs.InARow.{Stands, stands-getD, stands-number, Each, Row, offsets, firstAt, first-none, kept-row, first-row}
+use Rattle.laws.proofs.InARow.{Stands, stands-getD, stands-number, Each, Row, offsets, firstAt, first-none, kept-row, first-row}
 use Rattle.pcep_laws.proofs.WrittenObjects.{Object, bytesOfObject, RightObject, object-read, objects-pass, objects-placed, message, message-length, message-row, header-right, first-read}
 use Rattle.pcep_laws.proofs.WrittenPcrep.{rpObject, routeObject, metricObject, objectsOf, written-message, objects-right}
 use Rattle.pcep_laws.proofs.PcrepFits.{MetricFits, Fits, Writes, each-in-range}

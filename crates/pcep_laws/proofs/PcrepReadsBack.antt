@@ -24,7 +24,7 @@ use Rattle.pcep_model.specs.Objects.{sizeAt, messageVerdict}
 use Rattle.pcep_model.specs.Metrics.{metrics, wrongMetric}
 use Rattle.pcep_model.specs.Pcreq.{rpFlagsOf, requestIdOf}
 use Rattle.pcep_model.specs.Pcrep.{eroVerdict, addressesIn, routeGiven, routeIn, natureOf, cFlagOf, pcrepFields, mark, numbersOfPcrep, pcrepVerdict, answerPcrep, readPcrep, Reply, writtenStep, writtenPcrep, writeVerdict}
-use Rattle.pcep_laws.proofs.InARow.{Stands, stands-getD, stands-number, Each}
+use Rattle.laws.proofs.InARow.{Stands, stands-getD, stands-number, Each}
 use Rattle.pcep_laws.proofs.WrittenObjects.{bytesOfObject, RightObject, size-read, body-read}
 use Rattle.pcep_laws.proofs.WrittenEro.{Word, each-word, ero-passes, ero-read}
 use Rattle.pcep_laws.proofs.WrittenPcrep.{rpObject, routeObject, written-message, objects-right}

@@ -1,45 +1,31 @@
 -- What the calls that take or make a message say and write by their answer: as for the other calls (`Quiet` of `laws`), with numbers up to 41. By going through the checks.
-use Prim.Native.Nat.{ℕ, zero, suc, _+_, _≤_}
+use Prim.Native.Nat.{ℕ, _+_, _-_, _≤_}
 use native.Mathlib.Omega.{arith}
-use mathlib.Core.Path.{_≡_, refl, sym, subst}
-use mathlib.Core.Logic.{⊎-elim}
-use mathlib.Core.Bool.{Bool, true, false, not, _&&_, _||_}
+use mathlib.Core.Path.{_≡_, refl}
+use mathlib.Core.Bool.{Bool, not, _&&_, _||_}
 use mathlib.Core.List.{List, []}
 use lib.ListN.{length}
 use lib.Dec.{eqb, leb, ltb}
-use borrow.Author.Tests.{ltb-true, ltb-false}
-use Rattle.model.specs.declared.ListKind.the-variants.{Include, Exclude}
+use Rattle.model.specs.declared.ListKind.the-variants.{Include}
 use Rattle.model.specs.declared.Verdict.{Verdict}
 use Rattle.model.specs.declared.Verdict.the-variants.{Pass, Refuse}
 use Rattle.model.specs.Lists.{any}
 use Rattle.model.specs.Subobject as Subobject
 use Rattle.model.specs.Request.{sequenceOf}
 use Rattle.model.specs.Calls.{Outcome, buildTree, first, next}
-use Rattle.laws.proofs.Tests.{decide}
-use Rattle.laws.proofs.RefusalNumbers.{Refusing, passing, test, both, more, subobject-refusing, list-refusing, sequence-reads}
+use Rattle.laws.proofs.RefusalNumbers.{Refusing, test, both, more, along, subobject-refusing, sequence-reads, sizes-refusing, forms-refusing}
 use Rattle.laws.proofs.Quiet.{QuietNumbers, Quiet, refused-numbers, done-numbers, refused-quiet, done-quiet, room, write-by, tree-of, first-from, next-from}
 use Rattle.pcep_model.specs.declared.MessageKind.{MessageKind}
 use Rattle.pcep_model.specs.declared.MessageKind.the-variants.{Pcreq, Pcrep}
-use Rattle.pcep_model.specs.Along.{checkedAlong}
 use Rattle.pcep_model.specs.Objects.{RP, END-POINTS, NO-PATH, ERO, demandedAt, classAt, typeAt, sizeWrong, knownObject, objectVerdict, afterObject, firstObject, headerWrong, bodyVerdict, messageVerdict}
 use Rattle.pcep_model.specs.Metrics.{Metric, metrics, outOfRange, wrongMetric}
 use Rattle.pcep_model.specs.Pcreq.{bandwidthOf, includeExtent, excludeExtent, listIn, pcreqVerdict, answerPcreq, readPcreq, carried, behind, pcreqTree, pcreqFirst, pcreqNext}
-use Rattle.pcep_model.specs.Pcrep.{stepVerdict, afterStep, routeIn, addressesIn, pcrepVerdict, Reading, answerPcrep, readPcrep, Reply, writtenPcrep, writeVerdict, writePcrep}
-use Rattle.pcep_laws.proofs.Along.{check-step, none-checked}
+use Rattle.pcep_model.specs.Pcrep.{stepVerdict, routeIn, addressesIn, pcrepVerdict, Reading, answerPcrep, readPcrep, Reply, writtenPcrep, writeVerdict, writePcrep}
 
 high : 35 ≤ 41
 high = omega arith
 
 -- ---- the checks of a message
-
-along : (check : ℕ → Verdict) (next : ℕ → ℕ) (end : ℕ) → ((at : ℕ) → Refusing 41 (check at)) → (fuel at : ℕ) → Refusing 41 (checkedAlong fuel check next end at)
-unfolding checkedAlong
-along check next end h zero at = passing 41 high
-along check next end h (suc fuel) at =
-    ⊎-elim
-    (λ (t : ltb at end ≡ true). subst (Refusing 41) (sym (check-step next end check at fuel (ltb-true at end t))) (both 41 high (h at) (along check next end h fuel (next at))))
-    (λ (f : ltb at end ≡ false). subst (Refusing 41) (sym (none-checked next end check (suc fuel) at (ltb-false at end f))) (passing 41 high))
-    (decide (ltb at end))
 
 object-refusing : (k : MessageKind) (s : List ℕ) (at : ℕ) → Refusing 41 (objectVerdict k s at)
 unfolding objectVerdict
@@ -60,7 +46,7 @@ unfolding messageVerdict
 message-refusing k s =
     both 41 high
     (more 41 high
-    (both 41 high (test 41 high (headerWrong k s) 36 0 (omega arith)) (along (objectVerdict k s) (afterObject s) (length s) (object-refusing k s) (length s) 4))
+    (both 41 high (test 41 high (headerWrong k s) 36 0 (omega arith)) (along 41 high (objectVerdict k s) (afterObject s) (length s) (object-refusing k s) (length s - 4) 4))
     (eqb (firstObject RP s) 0)
     39
     0
@@ -70,7 +56,7 @@ message-refusing k s =
 step-refusing : (e : List ℕ) (at : ℕ) → Refusing 41 (stepVerdict e at)
 unfolding stepVerdict
 step-refusing e at =
-    both 41 high (test 41 high (leb (at + 4) (length e) && not (eqb (Subobject.typeAt e at) 1)) 24 at (omega arith)) (subobject-refusing 41 high Include e at)
+    both 41 high (test 41 high (leb (at + 4) (length e) && not (eqb (Subobject.typeAt e at) 1)) 24 at (omega arith)) (subobject-refusing 41 high Include e (length e) at)
 
 -- ---- the calls
 
@@ -113,19 +99,9 @@ messages-quiet =
           (both 41 high
           (both 41 high
           (both 41 high
-          (more 41 high
-          (more 41 high
           (both 41 high (message-refusing Pcreq s) (more 41 high (test 41 high (outOfRange (bandwidthOf s)) 21 0 (omega arith)) (not (eqb (wrongMetric s) 0)) 21 1 (omega arith)))
-          (ltb 1024 (length (listIn s (includeExtent s))))
-          22
-          0
-          (omega arith))
-          (ltb 1024 (length (listIn s (excludeExtent s))))
-          22
-          1
-          (omega arith))
-          (list-refusing 41 high Include (listIn s (includeExtent s))))
-          (list-refusing 41 high Exclude (listIn s (excludeExtent s))))
+          (sizes-refusing 41 high (listIn s (includeExtent s)) (listIn s (excludeExtent s))))
+          (forms-refusing 41 high (listIn s (includeExtent s)) (listIn s (excludeExtent s))))
           (room 41 high (length (metrics s)) there));
       pcreq-tree = λ profile ingress s there.
           let r = carried profile ingress s in behind-by (messageVerdict Pcreq s) _ (message-refusing Pcreq s) (tree-of 41 high r (sequenceOf r) there (sequence-reads 41 high r));
@@ -145,7 +121,7 @@ messages-quiet =
           (both 41 high
           (both 41 high
           (more 41 high (message-refusing Pcrep s) (not (eqb (wrongMetric s) 0)) 21 1 (omega arith))
-          (along (stepVerdict (routeIn s)) (afterStep (routeIn s)) (length (routeIn s)) (step-refusing (routeIn s)) (length (routeIn s)) 0))
+          (along 41 high (stepVerdict (routeIn s)) (Subobject.afterSubobject (routeIn s)) (length (routeIn s)) (step-refusing (routeIn s)) (length (routeIn s) - 0) 0))
           (room 41 high (length (addressesIn (routeIn s))) addressRoom))
           (room 41 high (length (metrics s)) metricRoom));
     }

@@ -1,21 +1,20 @@
 -- The body of an ERO that is written for addresses passes, and its addresses are those: each is an IPv4 subobject of 8 bytes, which a domain list's entry
 -- constraint is too. By the laws of things in a row.
-use Prim.Native.Nat.{ℕ, suc, _+_, _≤_, _<_}
+use Prim.Native.Nat.{ℕ, suc, _+_, _-_, _≤_, _<_}
 use native.Mathlib.Omega.{arith}
-use mathlib.Core.Path.{_≡_, ap, ap₂, _∙_}
+use mathlib.Core.Path.{_≡_, ap, _∙_}
 use mathlib.Core.List.{List, [], _∷_, _++_, map, map-id}
 use lib.ListN.{length, getD}
 use borrow.Author.Tests.{le-leb}
 use Rattle.model.specs.declared.Verdict.the-variants.{Pass}
-use Rattle.model.specs.declared.ListKind.the-variants.{Include}
 use Rattle.model.specs.Lists.{each}
 use Rattle.model.specs.Bytes.{bytesOf}
 use Rattle.model.specs.Subobject as Subobject
 use Rattle.laws.proofs.Numbers.{number-shift, number-bytesOf}
-use Rattle.laws.proofs.Subobjects.{right-pass, right-shift}
+use Rattle.laws.proofs.InARow.{Stands, stands-inside, stands-getD, stands-first, stands-number, Each, Row, in-a-row, checked-row, places-row, read-row}
+use Rattle.laws.proofs.Subobjects.{right-standing}
 use Rattle.laws.proofs.WrittenForm.{pin-encoded}
-use Rattle.pcep_model.specs.Pcrep.{stepVerdict, afterStep, eroVerdict, addressAt, addressesIn, writtenStep}
-use Rattle.pcep_laws.proofs.InARow.{Stands, stands-inside, stands-getD, stands-first, stands-number, Each, Row, in-a-row, checked-row, places-row, read-row}
+use Rattle.pcep_model.specs.Pcrep.{stepVerdict, eroVerdict, addressAt, addressesIn, writtenStep}
 
 -- an address is a u32
 abbrev pub Word : ℕ → Type 0
@@ -28,18 +27,13 @@ each-word (a ∷ s) h = (h 0, each-word s (λ i. h (suc i)))
 -- ---- one subobject, wherever it stands
 
 module _ (e : List ℕ) where
-  subobject-passes : (at a : ℕ) → Stands e at (writtenStep a) → Word a → Subobject.subobjectVerdict Include e at ≡ Pass
-  subobject-passes at a h w =
-      ap₂ (Subobject.subobjectVerdict Include) (h .whole) (h .offset)
-      ∙ right-pass (right-shift (h .before) (writtenStep a ++ h .after) (pin-encoded a w .right (h .after)))
-
   step-passes : (at a : ℕ) → Stands e at (writtenStep a) → Word a → stepVerdict e at ≡ Pass
   unfolding stepVerdict bytesOf
   step-passes at a h w =
       let inside : at + 4 ≤ length e = omega (arith, stands-inside e at (writtenStep a) h) in
-      rw (le-leb (at + 4) (length e) inside, stands-first e at (writtenStep a) h) (subobject-passes at a h w)
+      rw (le-leb (at + 4) (length e) inside, stands-first e at (writtenStep a) h) (right-standing h (stands-inside e at (writtenStep a) h) (pin-encoded a w .right))
 
-  onward : (at a : ℕ) → Stands e at (writtenStep a) → Word a → afterStep e at ≡ at + length (writtenStep a)
+  onward : (at a : ℕ) → Stands e at (writtenStep a) → Word a → Subobject.afterSubobject e at ≡ at + length (writtenStep a)
   unfolding bytesOf
   onward at a h w = ap (λ (n : ℕ). at + n) (stands-getD e at (writtenStep a) h 1)
 
@@ -63,12 +57,12 @@ module _ (s : List ℕ) (fits : Each Word s) where
   pub ero-passes : eroVerdict (each writtenStep s) ≡ Pass
   ero-passes =
       let e = each writtenStep s in
-      checked-row writtenStep e Word (stepVerdict e) (afterStep e) (step-passes e) (onward e) long (length e) 0 s row fits
+      checked-row writtenStep e Word (stepVerdict e) (Subobject.afterSubobject e) (step-passes e) (onward e) long (length e - 0) 0 s row fits
 
   pub ero-read : addressesIn (each writtenStep s) ≡ s
   unfolding addressesIn
   ero-read =
       let e = each writtenStep s in
-      ap (map (addressAt e)) (places-row writtenStep e Word (stepVerdict e) (afterStep e) (step-passes e) (onward e) long (length e) 0 s row fits (omega arith))
+      ap (map (addressAt e)) (places-row writtenStep e Word (stepVerdict e) (Subobject.afterSubobject e) (step-passes e) (onward e) long (length e - 0) 0 s row fits (omega arith))
       ∙ read-row writtenStep e Word (addressAt e) (λ (a : ℕ). a) (address-read e) 0 s row fits
       ∙ map-id s

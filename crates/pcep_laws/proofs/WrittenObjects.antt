@@ -1,6 +1,6 @@
 -- A message that is put together from objects is read as those objects: its header is right, each object passes, and the places are the running offsets.
 -- For both kinds of message, over what an object's rule asks; the reads at an object are those of its four bytes of header.
-use Prim.Native.Nat.{ℕ, _+_, _*_, _/_, _%_, _≤_, _<_}
+use Prim.Native.Nat.{ℕ, _+_, _-_, _*_, _/_, _%_, _≤_, _<_}
 use native.Mathlib.Omega.{arith}
 use mathlib.Core.Path.{_≡_, refl, sym, ap, ap₂, _∙_}
 use mathlib.Core.Bool.{Bool, true, false, not, _&&_}
@@ -14,10 +14,10 @@ use Rattle.model.specs.Lists.{each}
 use Rattle.model.specs.Bytes.{number, bytesOf, part}
 use Rattle.laws.proofs.Numbers.{number-shift, number-bytesOf}
 use Rattle.pcep_model.specs.declared.MessageKind.{MessageKind}
-use Rattle.pcep_model.specs.Along.{firstOf}
+use Rattle.model.specs.Along.{firstOf}
 use Rattle.pcep_model.specs.Objects.{knownObject, ownLength, classAt, typeAt, demandedAt, sizeAt, objectVerdict, afterObject, objectsVerdict, objectsIn, isObject, firstObject, typeNumber, headerWrong}
 use Rattle.pcep_model.specs.Pcrep.{mark, objectBytes, headerBytes}
-use Rattle.pcep_laws.proofs.InARow.{Stands, stands-inside, stands-getD, stands-first, stands-number, stands-part, Each, Row, offsets, firstAt, in-a-row, checked-row, places-row, first-row}
+use Rattle.laws.proofs.InARow.{Stands, stands-inside, stands-getD, stands-first, stands-number, stands-part, Each, Row, offsets, firstAt, in-a-row, checked-row, places-row, first-row}
 
 -- an object of type 1, with P set or clear
 pub record Object : Type 0 where
@@ -91,11 +91,11 @@ module _ (k : MessageKind) (s : List ℕ) where
 
   module _ (at : ℕ) (os : List Object) (row : Row bytesOfObject s at os) (right : Each (RightObject k) os) where
     pub objects-pass : objectsVerdict k s at ≡ Pass
-    objects-pass = checked-row bytesOfObject s (RightObject k) (objectVerdict k s) (afterObject s) object-passes onward long (length s) at os row right
+    objects-pass = checked-row bytesOfObject s (RightObject k) (objectVerdict k s) (afterObject s) object-passes onward long (length s - at) at os row right
 
     pub objects-placed : objectsIn s at ≡ offsets bytesOfObject at os
     objects-placed =
-        places-row bytesOfObject s (RightObject k) (objectVerdict k s) (afterObject s) object-passes onward long (length s) at os row right (omega arith)
+        places-row bytesOfObject s (RightObject k) (objectVerdict k s) (afterObject s) object-passes onward long (length s - at) at os row right (omega arith)
 
 -- ---- a whole message
 

@@ -13,7 +13,7 @@ use Rattle.pcep_model.specs.declared.MessageKind.the-variants.{Pcrep}
 use Rattle.pcep_model.specs.Objects.{RP, NO-PATH, METRIC, ERO, knownObject, ownLength}
 use Rattle.pcep_model.specs.Metrics.{Metric}
 use Rattle.pcep_model.specs.Pcrep.{mark, Reply, writtenRp, writtenStep, writtenEro, writtenNoPath, writtenMetric, writtenObjects, writtenPcrep}
-use Rattle.pcep_laws.proofs.InARow.{Each}
+use Rattle.laws.proofs.InARow.{Each}
 use Rattle.pcep_laws.proofs.WrittenObjects.{Object, bytesOfObject, RightObject, message}
 use Rattle.pcep_laws.proofs.WrittenLength.{steps-length, written-length}
 

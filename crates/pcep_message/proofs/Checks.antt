@@ -8,16 +8,14 @@ use mathlib.Core.List.{List}
 use lib.ListN.{length}
 use lib.Dec.{eqb, ltb}
 use borrow.Author.Tests.{lt-ltb, le-ltb, ltb-true, ltb-false, eq-eqb, ne-eqb}
-use Rattle.model.specs.declared.Verdict.{Verdict}
 use Rattle.model.specs.declared.Verdict.the-variants.{Pass}
 use Rattle.model.specs.Verdict.{refuseIf, _andThen_}
 use Rattle.laws.proofs.Tests.{decide, and-none, not-not}
-use Rattle.laws.proofs.Turns.{refuse-not-pass}
 use Rattle.pcep_model.specs.declared.MessageKind.{MessageKind}
 use Rattle.pcep_model.specs.Objects.{classAt, typeAt, demandedAt, sizeAt, sizeWrong, knownObject, objectVerdict}
 use Rattle.pcep_laws.specs.Table.{leastOf}
 use Rattle.pcep_laws.proofs.Table.{far-least, known-is, own-is}
-use Rattle.pcep_message.specs.Walked.{sizeRefused, knownClass, ObjectIs}
+use Rattle.pcep_message.specs.Walked.{sizeRefused, knownClass, ObjectPassed}
 
 same-left : (l at n : ℕ) → at ≤ l → ltb l (at + n) ≡ ltb (l - at) n
 same-left l at n h =
@@ -75,14 +73,5 @@ module _ (k : MessageKind) (s : List ℕ) (at : ℕ) where
 -- ---- what is answered
 
 module _ (k : MessageKind) (s : List ℕ) (at : ℕ) where
-  pub refused : (n : ℕ) (v : Verdict) → v ≡ refuseIf true n at → refuseIf true n at ≡ objectVerdict k s at → ObjectIs k s at (record { verdict = v; class = 0; next = at })
-  refused n v e is =
-      record {
-        verdict = e ∙ is;
-        class = λ p. absurd (refuse-not-pass _ (sym e ∙ p));
-        small = omega arith;
-        next = λ p. absurd (refuse-not-pass _ (sym e ∙ p));
-      }
-
-  pub passed : (c n : ℕ) → Pass ≡ objectVerdict k s at → c ≡ knownClass k s at → c < 18 → n ≡ sizeAt s at → ObjectIs k s at (record { verdict = Pass; class = c; next = at + n })
-  passed c n is known small size = record { verdict = is; class = λ p. known; small = small; next = λ p. ap (λ (x : ℕ). at + x) size }
+  pub passed : (c n : ℕ) → Pass ≡ objectVerdict k s at → c ≡ knownClass k s at → c < 18 → n ≡ sizeAt s at → ObjectPassed k s at c (at + n)
+  passed c n is known small size = record { verdict = sym is; class-is = known; small = small; next-is = ap (λ (x : ℕ). at + x) size }

@@ -14,13 +14,12 @@ use Rattle.laws.proofs.Turns.{refuse-not-pass}
 use Rattle.laws.proofs.Tests.{and-all, and-none}
 use Rattle.pcep_model.specs.declared.MessageKind.{MessageKind}
 use Rattle.pcep_model.specs.declared.MessageKind.the-variants.{Pcreq, Pcrep}
-use Rattle.pcep_model.specs.Along.{firstOf}
-use Rattle.pcep_model.specs.Objects.{classAt, typeAt, isObject, objectVerdict, objectsVerdict, afterObject, firstObject}
+use Rattle.model.specs.Along.{firstOf}
+use Rattle.pcep_model.specs.Objects.{classAt, typeAt, isObject, objectVerdict, objectsVerdict, objectsIn, afterObject, firstObject}
 use Rattle.pcep_laws.specs.Table.{leasts}
 use Rattle.pcep_laws.specs.Firsts.{kept, noted}
-use Rattle.pcep_laws.proofs.Along as Along
-use Rattle.pcep_laws.specs.Left.{objectsLeft, placesLeft}
-use Rattle.pcep_laws.proofs.Objects.{right-object, further, objects-whole, places-whole, first-end, first-next, noted-kept, kept-none}
+use Rattle.laws.proofs.Along as Along
+use Rattle.pcep_laws.proofs.Objects.{right-object, further, first-end, first-next, noted-kept, kept-none}
 use Rattle.pcep_message.specs.Walked.{knownClass, FirstsAre, ObjectsAre}
 
 -- no class 0 is known
@@ -52,11 +51,11 @@ module _ (k : MessageKind) (s : List ℕ) where
   pub record Walked (at : ℕ) (firsts : List ℕ) : Type 0 where
     pub start : 4 ≤ at
     pub reached : at ≤ length s
-    pub same : objectsLeft k s at ≡ objectsLeft k s 4
+    pub same : objectsVerdict k s at ≡ objectsVerdict k s 4
     pub long : length firsts ≡ 18
     pub met
-        : objectsLeft k s 4 ≡ Pass → (c : ℕ) → 0 < getD (leasts k) c 0
-        → kept (getD firsts c 0) (firstOf (isObject c s) (placesLeft s at)) ≡ firstOf (isObject c s) (placesLeft s 4)
+        : objectsVerdict k s 4 ≡ Pass → (c : ℕ) → 0 < getD (leasts k) c 0
+        → kept (getD firsts c 0) (firstOf (isObject c s) (objectsIn s at)) ≡ firstOf (isObject c s) (objectsIn s 4)
 
 zeros : (n c : ℕ) → _≡_ {A = ℕ} (getD (replicate n 0) c 0) 0
 zeros zero c = refl
@@ -71,7 +70,7 @@ module _ (k : MessageKind) (s : List ℕ) where
         reached = h;
         same = refl;
         long = refl;
-        met = λ e c known. ap (λ (x : ℕ). kept x (firstOf (isObject c s) (placesLeft s 4))) (zeros 18 c);
+        met = λ e c known. ap (λ (x : ℕ). kept x (firstOf (isObject c s) (objectsIn s 4))) (zeros 18 c);
       }
 
   module _ (at : ℕ) (firsts : List ℕ) (w : Walked k s at firsts) where
@@ -79,25 +78,25 @@ module _ (k : MessageKind) (s : List ℕ) where
     unfolding firstObject
     walk-ends h =
         let pass = sym (w .same) ∙ Along.checked-end (afterObject s) (length s) (objectVerdict k s) (further k s) at h in (
-          sym (objects-whole k s 4) ∙ pass,
+          pass,
           λ c known.
               sym (kept-none (getD firsts c 0))
               ∙ ap (kept (getD firsts c 0)) (sym (first-end k s (isObject c s) at h))
-              ∙ w .met pass c known
-              ∙ ap (firstOf (isObject c s)) (places-whole k s 4 (sym (objects-whole k s 4) ∙ pass)),
+              ∙ w .met pass c known,
         )
 
     -- an object that is refused refuses the message
-    pub walk-refused : at < length s → (x : Refusal) → objectVerdict k s at ≡ Refuse x → ObjectsAre k s (record { verdict = Refuse x; firsts = firsts })
+    pub walk-refused : at < length s → (x : Refusal) → objectVerdict k s at ≡ Refuse x → ObjectsAre k s (record { verdict = Refuse x; firsts = replicate 18 0 })
     walk-refused h x e =
         record {
-          verdict = sym (Along.checked-refused (afterObject s) (length s) (objectVerdict k s) (further k s) at h x e) ∙ w .same ∙ objects-whole k s 4;
-          firsts-long = w .long;
+          verdict = sym (Along.checked-refused (afterObject s) (length s) (objectVerdict k s) (further k s) at h x e) ∙ w .same;
+          firsts-long = refl;
           firsts = λ p. absurd (refuse-not-pass x p);
+          none = λ y p. refl;
         }
 
     pub walk-passes : length s ≤ at → ObjectsAre k s (record { verdict = Pass; firsts = firsts })
-    walk-passes h = let e = walk-ends h in record { verdict = sym (e .0); firsts-long = w .long; firsts = λ p. e .1 }
+    walk-passes h = let e = walk-ends h in record { verdict = sym (e .0); firsts-long = w .long; firsts = λ p. e .1; none = λ x p. absurd (refuse-not-pass x (sym p)) }
 
     -- one step: the object passes, and its place is noted for its class
     module _ (h : at < length s) (pass : objectVerdict k s at ≡ Pass) (class : ℕ) (is : class ≡ knownClass k s at) (small : class < 18) where
@@ -121,7 +120,7 @@ module _ (k : MessageKind) (s : List ℕ) where
             long = length-set firsts class x ∙ w .long;
             met =
                 λ p c known.
-                let later = firstOf (isObject c s) (placesLeft s (afterObject s at)) in
+                let later = firstOf (isObject c s) (objectsIn s (afterObject s at)) in
                 ap (λ (y : ℕ). kept y later) (new-at x e c ∙ ap (λ (b : Bool). noted b (getD firsts c 0) at) (ap (λ (i : ℕ). eqb i c) is ∙ known-same k s at c known))
                 ∙ noted-kept (getD firsts c 0) at later (omega (arith, w .start)) (isObject c s at)
                 ∙ ap (kept (getD firsts c 0)) (sym (first-next k s (isObject c s) at h (w .same ∙ p)))

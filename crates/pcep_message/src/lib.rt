@@ -1,6 +1,8 @@
 // A whole message: the common header, 36, the objects in turn, then 39, 40 and 41.
 use crate::objects::Objects;
 use crate::objects::objects_in;
+use crate::objects::refused;
+use model::Refusal;
 use model::Verdict;
 use pcep_model::MessageKind;
 use refusal::refuse;
@@ -74,23 +76,23 @@ pub fn frame(kind: MessageKind, message: &[u8]) -> Objects
     ensures { λ r. ⌜ FrameIs kind (now (message .entry)) r ⌝ }
 {
     if header_wrong(kind, message) {
-        return Objects {
-            verdict: refuse(36, 0),
-            firsts: [0u16; 18],
-        };
+        return refused(Refusal {
+            number: 36,
+            place: 0,
+        });
     }
     let objects = objects_in(kind, message);
     let firsts = objects.firsts;
     let verdict = objects.verdict;
     if let Verdict::Refuse(r) = verdict {
-        return Objects {
-            verdict: Verdict::Refuse(r),
-            firsts,
-        };
+        return refused(r);
     }
     let last = missing(kind, firsts);
+    if let Verdict::Refuse(r) = last {
+        return refused(r);
+    }
     Objects {
-        verdict: last,
+        verdict: Verdict::Pass,
         firsts,
     }
 }

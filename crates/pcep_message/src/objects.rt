@@ -1,14 +1,15 @@
 // A PCEP message's objects in turn, 37 and 38, with where the first one of each known class starts.
+use model::Refusal;
 use model::Verdict;
 use pcep_model::MessageKind;
-use refusal::refuse;
 use wire::u16_at;
 use wire::wide;
 ghost use mathlib.Core.Path.{_≡_};
 ghost use Prim.Native.Nat.{_≤_, _<_};
-ghost use lib.ListN.{length, getD};
+ghost use lib.ListN.{length, getD, replicate};
 ghost use Rattle.pcep_model.specs.declared.MessageKind.the-variants.{Pcreq, Pcrep};
 ghost use mathlib.Core.Bool.{true};
+ghost use Rattle.model.specs.declared.Verdict.the-variants.{Refuse};
 ghost use Rattle.pcep_laws.specs.Table.{leasts, leastOf, fitsLeast};
 ghost use Rattle.pcep_laws.specs.Firsts.{noted};
 ghost use Rattle.pcep_message.specs.Walked.{sizeRefused, ObjectIs, ObjectsAre};
@@ -89,11 +90,10 @@ fn size_wrong(class: u8, least: usize, n: usize, left: usize) -> bool
     !fits(class, least, n)
 }
 
-// What the check of an object says, its class, or 0 where it isn't known, and where the next one starts.
-struct Object {
-    verdict: Verdict,
-    class: usize,
-    next: usize,
+// What the check of an object says: refused, or its class, 0 where it isn't known, and where the next one starts.
+enum Object {
+    Refused(Refusal),
+    Passed { class: usize, next: usize },
 }
 
 // The object at an offset.
@@ -103,48 +103,53 @@ fn object_at(kind: MessageKind, message: &[u8], at: usize) -> Object
 {
     let left = message.len() - at;
     if left < 4 {
-        return Object {
-            verdict: refuse(37, at as u32),
-            class: 0,
-            next: at,
-        };
+        return Object::Refused(Refusal {
+            number: 37,
+            place: at as u32,
+        });
     }
     let class = message[at];
     let second = message[at + 1];
     let n = u16_at(message, at + 2) as usize;
     let least = least_of(kind, class, second / 16);
     if size_wrong(class, least, n, left) {
-        return Object {
-            verdict: refuse(37, at as u32),
-            class: 0,
-            next: at,
-        };
+        return Object::Refused(Refusal {
+            number: 37,
+            place: at as u32,
+        });
     }
     if least != 0 {
-        return Object {
-            verdict: Verdict::Pass,
+        return Object::Passed {
             class: wide(class),
             next: at + n,
         };
     }
     if second / 2 % 2 == 1 {
-        return Object {
-            verdict: refuse(38, at as u32),
-            class: 0,
-            next: at,
-        };
+        return Object::Refused(Refusal {
+            number: 38,
+            place: at as u32,
+        });
     }
-    Object {
-        verdict: Verdict::Pass,
+    Object::Passed {
         class: 0,
         next: at + n,
     }
 }
 
-// What the checks of the objects in turn say, and where they pass the offset of the first one of each class that is known, 0 for none.
+// What the checks of the objects in turn say, and where they pass the offset of the first one of each class that is known, 0 for none; 0 for all
+// where they refuse.
 pub struct Objects {
     pub verdict: Verdict,
     pub firsts: [u16; 18],
+}
+
+pub(crate) fn refused(r: Refusal) -> Objects
+    ensures { λ x. ⌜ x ≡ record { verdict = Refuse r; firsts = replicate 18 0 } ⌝ }
+{
+    Objects {
+        verdict: Verdict::Refuse(r),
+        firsts: [0u16; 18],
+    }
 }
 
 // The first place met of a class: the one known so far, or where there is none this one.
@@ -166,16 +171,13 @@ pub fn objects_in(kind: MessageKind, message: &[u8]) -> Objects
     let mut at: usize = 4;
     while at < message.len() {
         let object = object_at(kind, message, at);
-        let verdict = object.verdict;
-        if let Verdict::Refuse(r) = verdict {
-            return Objects {
-                verdict: Verdict::Refuse(r),
-                firsts,
-            };
+        match object {
+            Object::Refused(r) => return refused(r),
+            Object::Passed { class, next } => {
+                firsts[class] = first_of(firsts[class], at as u16);
+                at = next;
+            }
         }
-        let class = object.class;
-        firsts[class] = first_of(firsts[class], at as u16);
-        at = object.next;
     }
     Objects {
         verdict: Verdict::Pass,

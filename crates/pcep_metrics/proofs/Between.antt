@@ -6,7 +6,7 @@ use mathlib.Core.Bool.{false}
 use mathlib.Core.List.{List}
 use lib.ListN.{length}
 use Rattle.pcep_model.specs.Objects.{METRIC, isObject, objectVerdict, afterObject}
-use Rattle.pcep_laws.proofs.Along as Along
+use Rattle.laws.proofs.Along as Along
 use Rattle.pcep_laws.proofs.Objects.{Right, right-object, further}
 use Rattle.pcep_laws.proofs.Metrics.{metric-skipped}
 use Rattle.pcep_metrics.specs.Along.{AtObject, NoneBetween}

@@ -6,13 +6,13 @@ use mathlib.Core.Bool.{Bool, true}
 use mathlib.Core.List.{List, [], _∷_}
 use lib.ListN.{length}
 use Rattle.model.specs.declared.Verdict.the-variants.{Pass}
-use Rattle.pcep_model.specs.Along.{firstOf}
-use Rattle.pcep_model.specs.Objects.{METRIC, isObject}
+use Rattle.model.specs.Along.{firstOf}
+use Rattle.pcep_model.specs.Objects.{METRIC, isObject, objectsVerdict}
 use Rattle.pcep_laws.specs.Firsts.{kept, noted}
 use Rattle.pcep_laws.specs.Metrics.{metricPlaces, hasB, isWrong}
-use Rattle.pcep_laws.specs.Left.{objectsLeft, metricsLeft}
-use Rattle.pcep_laws.proofs.Objects.{objects-whole, noted-kept, kept-none}
-use Rattle.pcep_laws.proofs.Metrics.{metrics-whole, metrics-end, metric-inside, metric-taken, after-metric, bound-is, wrong-is, metrics-count}
+use Rattle.pcep_laws.specs.Left.{metricsLeft}
+use Rattle.pcep_laws.proofs.Objects.{noted-kept, kept-none}
+use Rattle.pcep_laws.proofs.Metrics.{metrics-end, metric-inside, metric-taken, after-metric, bound-is, wrong-is, metrics-count}
 use Rattle.pcep_metrics.specs.Along.{Passed, AtObject, NextMetric, MetricScanIs}
 
 -- ---- the first METRIC that passes a test, met so far or to come
@@ -35,7 +35,7 @@ met-ends test a left whole e m = sym (kept-none a) ∙ ap (kept a) (sym (ap (fir
 
 module _ (s : List ℕ) where
   pub record Judging (p : Passed s) (at count bound wrong : ℕ) : Type 0 where
-    pub left : objectsLeft (p .kind) s at ≡ Pass
+    pub left : objectsVerdict (p .kind) s at ≡ Pass
     pub inside : at ≤ length s
     pub start : 4 ≤ at
     pub metric : at < length s → isObject METRIC s at ≡ true
@@ -45,19 +45,16 @@ module _ (s : List ℕ) where
     pub wrong-met : Met (isWrong s) wrong (metricsLeft s at) (metricPlaces s)
 
   module _ (p : Passed s) where
-    start-left : objectsLeft (p .kind) s 4 ≡ Pass
-    start-left = objects-whole (p .kind) s 4 ∙ p .right
-
     pub at-start : AtObject s 4
-    at-start = record { passed = p; left = start-left; inside = p .long }
+    at-start = record { passed = p; left = p .right; inside = p .long }
 
     pub judging-starts : (r : ℕ) → NextMetric s 4 r → Judging p r 0 0 0
     judging-starts r n =
         let b = n .none-between in
         let k = p .kind in
-        let same = sym (b .same k start-left) ∙ metrics-whole k s (p .right) in
+        let same = sym (b .same k (p .right)) in
         record {
-          left = b .left k start-left;
+          left = b .left k (p .right);
           inside = b .inside;
           start = b .further;
           metric = n .metric;
@@ -82,7 +79,7 @@ module _ (s : List ℕ) where
         pub whole : at + 12 ≤ length s
         whole = metric-inside (p .kind) s at h (j .left) (j .metric h)
 
-        behind-left : objectsLeft (p .kind) s (at + 12) ≡ Pass
+        behind-left : objectsVerdict (p .kind) s (at + 12) ≡ Pass
         behind-left = after-metric (p .kind) s at h (j .left) (j .metric h)
 
         pub behind : AtObject s (at + 12)

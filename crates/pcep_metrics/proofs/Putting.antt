@@ -14,10 +14,10 @@ use Rattle.model.specs.declared.Verdict.the-variants.{Pass}
 use Rattle.model.specs.Lists.{over}
 use Rattle.laws.proofs.Lists.{over-length, over-nothing, copied-next}
 use Rattle.laws.proofs.Tests.{decide}
+use Rattle.pcep_model.specs.Objects.{objectsVerdict}
 use Rattle.pcep_model.specs.Metrics.{Metric, metricAt, metrics}
-use Rattle.pcep_laws.specs.Left.{objectsLeft, metricsLeft}
-use Rattle.pcep_laws.proofs.Objects.{objects-whole}
-use Rattle.pcep_laws.proofs.Metrics.{metrics-whole, metrics-end, metrics-are, metric-inside, metric-taken, after-metric}
+use Rattle.pcep_laws.specs.Left.{metricsLeft}
+use Rattle.pcep_laws.proofs.Metrics.{metrics-end, metrics-are, metric-inside, metric-taken, after-metric}
 use Rattle.pcep_metrics.specs.Along.{Passed, AtObject, NextMetric}
 
 -- ---- one buffer: the field of the first i elements over its start
@@ -70,7 +70,7 @@ module _ {A : Type 0} where
 
 module _ (s : List ℕ) where
   pub record Putting (p : Passed s) (at i : ℕ) : Type 0 where
-    pub left : objectsLeft (p .kind) s at ≡ Pass
+    pub left : objectsVerdict (p .kind) s at ≡ Pass
     pub inside : at ≤ length s
     pub rest : drop i (metrics s) ≡ map (metricAt s) (metricsLeft s at)
 
@@ -78,9 +78,9 @@ module _ (s : List ℕ) where
     pub putting-starts : Putting p 4 0
     putting-starts =
         record {
-          left = objects-whole (p .kind) s 4 ∙ p .right;
+          left = p .right;
           inside = p .long;
-          rest = metrics-are s ∙ ap (map (metricAt s)) (sym (metrics-whole (p .kind) s (p .right)));
+          rest = metrics-are s;
         }
 
     module _ (at i : ℕ) (j : Putting p at i) where
@@ -88,7 +88,7 @@ module _ (s : List ℕ) where
       standing = record { passed = p; left = j .left; inside = j .inside }
 
       module _ (h : i < length (metrics s)) (r : ℕ) (n : NextMetric s at r) where
-        right : objectsLeft (p .kind) s r ≡ Pass
+        right : objectsVerdict (p .kind) s r ≡ Pass
         right = n .none-between .left (p .kind) (j .left)
 
         same : metricsLeft s at ≡ metricsLeft s r

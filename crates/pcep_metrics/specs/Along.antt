@@ -8,7 +8,7 @@ use Rattle.model.specs.declared.Verdict.the-variants.{Pass}
 use Rattle.pcep_model.specs.declared.MessageKind.{MessageKind}
 use Rattle.pcep_model.specs.Objects.{METRIC, isObject, objectsVerdict}
 use Rattle.pcep_model.specs.Metrics.{Metric, metrics, wrongMetric, boundMetric}
-use Rattle.pcep_laws.specs.Left.{objectsLeft, metricsLeft}
+use Rattle.pcep_laws.specs.Left.{metricsLeft}
 use Rattle.pcep_metrics.specs.declared.MetricScan.{MetricScan}
 
 -- a message of some kind whose objects are right
@@ -21,15 +21,15 @@ pub record Passed (s : List ℕ) : Type 0 where
 -- a place of the walk along its objects: what is left is right
 pub record AtObject (s : List ℕ) (at : ℕ) : Type 0 where
   pub passed : Passed s
-  pub left : objectsLeft (passed .kind) s at ≡ Pass
+  pub left : objectsVerdict (passed .kind) s at ≡ Pass
   pub inside : at ≤ length s
 
 -- the METRICs that are left from one place on are those from a later one on
 pub record NoneBetween (s : List ℕ) (from at : ℕ) : Type 0 where
   pub further : from ≤ at
   pub inside : at ≤ length s
-  pub left : (k : MessageKind) → objectsLeft k s from ≡ Pass → objectsLeft k s at ≡ Pass
-  pub same : (k : MessageKind) → objectsLeft k s from ≡ Pass → metricsLeft s from ≡ metricsLeft s at
+  pub left : (k : MessageKind) → objectsVerdict k s from ≡ Pass → objectsVerdict k s at ≡ Pass
+  pub same : (k : MessageKind) → objectsVerdict k s from ≡ Pass → metricsLeft s from ≡ metricsLeft s at
 
 -- and one stands there, unless it is the end
 pub record NextMetric (s : List ℕ) (from r : ℕ) : Type 0 where

@@ -6,7 +6,7 @@ use lib.ListN.{getD}
 use lib.Dec.{eqb, leb}
 use Rattle.model.specs.Lists.{keep}
 use Rattle.model.specs.Bytes.{number}
-use Rattle.pcep_model.specs.Along.{firstOf}
+use Rattle.model.specs.Along.{firstOf}
 use Rattle.pcep_model.specs.Objects.{METRIC, isObject, objectsIn}
 
 pub record Metric : Type 0 where

@@ -8,9 +8,9 @@ use Rattle.model.specs.declared.Verdict.{Verdict}
 use Rattle.model.specs.Lists.{all, any}
 use Rattle.model.specs.Bytes.{number}
 use Rattle.model.specs.Verdict.{refuseIf, _andThen_}
+use Rattle.model.specs.Along.{checkedFrom, placesFrom, firstOf}
 use Rattle.pcep_model.specs.declared.MessageKind.{MessageKind}
 use Rattle.pcep_model.specs.declared.MessageKind.the-variants.{Pcreq, Pcrep}
-use Rattle.pcep_model.specs.Along.{checkedAlong, placesAlong, firstOf}
 
 -- ---- the known objects: class, type, the least length with the object's header, whether TLVs or subobjects can make it longer, and the messages that it
 -- is known in
@@ -109,10 +109,10 @@ abbrev pub afterObject : List ℕ → ℕ → ℕ
 afterObject s at = at + sizeAt s at
 
 abbrev pub objectsVerdict : MessageKind → List ℕ → ℕ → Verdict
-objectsVerdict k s at = checkedAlong (length s) (objectVerdict k s) (afterObject s) (length s) at
+objectsVerdict k s at = checkedFrom (objectVerdict k s) (afterObject s) (length s) at
 
 abbrev pub objectsIn : List ℕ → ℕ → List ℕ
-objectsIn s at = placesAlong (length s) (afterObject s) (length s) at
+objectsIn s at = placesFrom (afterObject s) (length s) at
 
 -- the object there is of this class, which the table knows with type 1
 abbrev pub isObject : ℕ → List ℕ → ℕ → Bool

@@ -10,6 +10,7 @@ use Rattle.model.specs.declared.Verdict.the-variants.{Pass, Refuse}
 use Rattle.model.specs.Lists.{any, each}
 use Rattle.model.specs.Bytes.{number, bytesOf, part}
 use Rattle.model.specs.Verdict.{refuseIf, _andThen_}
+use Rattle.model.specs.Along.{checkedFrom, placesFrom}
 use Rattle.model.specs.Subobject as Subobject
 use Rattle.model.specs.Answers.{Numbers}
 use Rattle.model.specs.Calls.{Outcome, roomVerdict, answerWrite}
@@ -18,7 +19,6 @@ use Rattle.pcep_model.specs.declared.MessageKind.the-variants.{Pcrep}
 use Rattle.pcep_model.specs.declared.PcrepFields.{PcrepFields}
 use Rattle.pcep_model.specs.declared.PcrepAnswer.{PcrepAnswer}
 use Rattle.pcep_model.specs.declared.PcrepAnswer.the-variants as Answer
-use Rattle.pcep_model.specs.Along.{checkedAlong, placesAlong}
 use Rattle.pcep_model.specs.Objects.{RP, NO-PATH, METRIC, ERO, sizeAt, firstObject, typeNumber, messageVerdict}
 use Rattle.pcep_model.specs.Metrics.{Metric, metrics, outOfRange, wrongMetric}
 use Rattle.pcep_model.specs.Pcreq.{rpFlagsOf, requestIdOf}
@@ -29,19 +29,16 @@ use Rattle.pcep_model.specs.Pcreq.{rpFlagsOf, requestIdOf}
 unfoldable pub stepVerdict : List ℕ → ℕ → Verdict
 stepVerdict e at =
     refuseIf (leb (at + 4) (length e) && not (eqb (Subobject.typeAt e at) 1)) 24 at
-    andThen Subobject.subobjectVerdict Include e at
-
-abbrev pub afterStep : List ℕ → ℕ → ℕ
-afterStep e at = at + Subobject.lengthAt e at
+    andThen Subobject.subobjectVerdict Include e (length e) at
 
 abbrev pub eroVerdict : List ℕ → Verdict
-eroVerdict e = checkedAlong (length e) (stepVerdict e) (afterStep e) (length e) 0
+eroVerdict e = checkedFrom (stepVerdict e) (Subobject.afterSubobject e) (length e) 0
 
 abbrev pub addressAt : List ℕ → ℕ → ℕ
 addressAt e at = number 4 e (at + 2)
 
 unfoldable pub addressesIn : List ℕ → List ℕ
-addressesIn e = map (addressAt e) (placesAlong (length e) (afterStep e) (length e) 0)
+addressesIn e = map (addressAt e) (placesFrom (Subobject.afterSubobject e) (length e) 0)
 
 -- ---- fields
 

@@ -6,13 +6,11 @@ use lib.ListN.{length}
 use lib.Dec.{eqb}
 use Rattle.model.specs.declared.Limits.{Limits}
 use Rattle.model.specs.declared.TreeEntry.{TreeEntry}
-use Rattle.model.specs.declared.ListKind.the-variants.{Include, Exclude}
 use Rattle.model.specs.declared.Verdict.{Verdict}
 use Rattle.model.specs.declared.Verdict.the-variants.{Pass, Refuse}
 use Rattle.model.specs.Bytes.{number, part}
 use Rattle.model.specs.Verdict.{refuseIf, _andThen_}
-use Rattle.model.specs.Subobject.{formVerdict}
-use Rattle.model.specs.Request.{Request, limitsOfBits, sizeVerdict}
+use Rattle.model.specs.Request.{Request, limitsOfBits, sizesVerdict, formsVerdict}
 use Rattle.model.specs.Answers.{Numbers, refused4}
 use Rattle.model.specs.Calls.{Outcome, nothing, roomVerdict, buildTree, first, next}
 use Rattle.model.specs.Series.{Kind, firstCall, nextCall, Call, Reply, replyTo, lastAfter}
@@ -104,10 +102,8 @@ unfoldable pub pcreqVerdict : List ℕ → ℕ → Verdict
 pcreqVerdict s room =
     messageVerdict Pcreq s
     andThen floatsVerdict s
-    andThen sizeVerdict (listIn s (includeExtent s)) 0
-    andThen sizeVerdict (listIn s (excludeExtent s)) 1
-    andThen formVerdict Include (listIn s (includeExtent s))
-    andThen formVerdict Exclude (listIn s (excludeExtent s))
+    andThen sizesVerdict (listIn s (includeExtent s)) (listIn s (excludeExtent s))
+    andThen formsVerdict (listIn s (includeExtent s)) (listIn s (excludeExtent s))
     andThen roomVerdict (length (metrics s)) room
 
 abbrev pub answerPcreq : Verdict → List ℕ → Outcome Metric

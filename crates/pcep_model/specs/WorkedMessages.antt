@@ -18,14 +18,14 @@ use Rattle.model.specs.Subobject as Subobject
 use Rattle.model.specs.Sequence.{ofSystem, ofArea, enter, name, readOne, readAll, meaning}
 use Rattle.model.specs.Exclusion.{inForce, someDesired, excludedDomain, excludedNode}
 use Rattle.model.specs.Floats.{units, inRange, atLeast, atMost, floatOf}
-use Rattle.model.specs.Request.{requestVerdict, sequenceOf, searchIn}
+use Rattle.model.specs.Request.{requestVerdict, sequenceOf, allExclusions, searchIn}
 use Rattle.model.specs.Path as Path
 use Rattle.model.specs.Tree as Tree
 use Rattle.model.specs.Rounds.{roundOf, searchOf}
 use Rattle.model.specs.Answers.{Numbers}
 use Rattle.model.specs.Calls.{Outcome, buildTree, first, greaterThan, next}
 use Rattle.model.specs.WorkedCases.{profileW}
-use Rattle.pcep_model.specs.Along.{checkedAlong, placesAlong, firstOf}
+use Rattle.model.specs.Along.{checkedAlong, placesAlong, firstOf}
 use Rattle.pcep_model.specs.Objects.{knownObject, ownLength, objectVerdict, firstObject, messageVerdict}
 use Rattle.pcep_model.specs.Metrics.{Metric, metrics, wrongMetric, boundMetric}
 use Rattle.pcep_model.specs.Pcreq.{pcreqVerdict, readPcreq, pcreqTree, pcreqFirst, pcreqNext}
@@ -304,5 +304,5 @@ table = requests ++ answers ++ exchanged
 
 -- every row holds
 pub worked-messages : map (λ (r : Row). outcome (r .case)) table ≡ map (λ (r : Row). r .expected) table
-unfolding pcreq pcrep rp cleanRp rpWithTlv endPoints bandwidth metric14 metric13 endless iro longIro xro demandedOf otherOf ero mixedEro zeroEro noPath asks asksWith asksWithBoth asksMore pathFound noneFound outcome row numbers metric unread no-answer no-reply costs14 at SPUZ SQTZ SQUZ route noRoute replied requests answers exchanged table profileW countFrom keep all any each among allDifferent sum least same below insert different number bytesOf allZero inTurn inRanges misplaced Profile.headerWrong Profile.countsWrong Profile.lengthWrong Profile.headerVerdict Profile.domainAt Profile.domains Profile.areaLengthFits Profile.domainMalformed Profile.domainMisordered Profile.domainVerdict Profile.hopAt Profile.hops Profile.hopMalformed Profile.hopMisordered Profile.hopVerdict Profile.entryNodes Profile.crowded Profile.crowdedVerdict Profile.profileVerdict Subobject.known Subobject.lengthFits Subobject.subobjectVerdict Subobject.namedAt Subobject.formFrom Subobject.formVerdict Subobject.subobjectsFrom Subobject.subobjects ofSystem ofArea enter name readOne readAll meaning inForce someDesired excludedDomain excludedNode units inRange atLeast atMost floatOf requestVerdict sequenceOf searchIn roundOf searchOf Path.legs Path.keepsBound Path.allowed Path.hopsFrom Path.suffixes Path.paths Path.admissible Path.cheapest Path.shortestPaths Tree.entriesAt Tree.entry Tree.tree Tree.tally buildTree first greaterThan next ofBits toBits ofFields odd size span climb ofInt round isNan Ieee.units trailingZeros checkedAlong placesAlong firstOf knownObject ownLength objectVerdict firstObject messageVerdict metrics wrongMetric boundMetric pcreqVerdict readPcreq pcreqTree pcreqFirst pcreqNext stepVerdict addressesIn pcrepVerdict readPcrep writtenPcrep writeVerdict writePcrep metricsOf
+unfolding pcreq pcrep rp cleanRp rpWithTlv endPoints bandwidth metric14 metric13 endless iro longIro xro demandedOf otherOf ero mixedEro zeroEro noPath asks asksWith asksWithBoth asksMore pathFound noneFound outcome row numbers metric unread no-answer no-reply costs14 at SPUZ SQTZ SQUZ route noRoute replied requests answers exchanged table profileW countFrom keep all any each among allDifferent sum least same below insert different number bytesOf allZero inTurn inRanges misplaced Profile.headerWrong Profile.countsWrong Profile.lengthWrong Profile.headerVerdict Profile.domainAt Profile.domains Profile.areaLengthFits Profile.domainMalformed Profile.domainMisordered Profile.domainVerdict Profile.hopAt Profile.hops Profile.hopMalformed Profile.hopMisordered Profile.hopVerdict Profile.entryNodes Profile.crowded Profile.crowdedVerdict Profile.profileVerdict Subobject.known Subobject.lengthFits Subobject.subobjectVerdict Subobject.namedAt Subobject.formVerdict Subobject.subobjects ofSystem ofArea enter name readOne readAll meaning inForce someDesired excludedDomain excludedNode units inRange atLeast atMost floatOf requestVerdict sequenceOf allExclusions searchIn roundOf searchOf Path.legs Path.keepsBound Path.exclusionsAt Path.allowed Path.hopsFrom Path.suffixes Path.paths Path.admissible Path.cheapest Path.shortestPaths Tree.entriesAt Tree.entry Tree.tree Tree.tally buildTree first greaterThan next ofBits toBits ofFields odd size span climb ofInt round isNan Ieee.units trailingZeros checkedAlong placesAlong firstOf knownObject ownLength objectVerdict firstObject messageVerdict metrics wrongMetric boundMetric pcreqVerdict readPcreq pcreqTree pcreqFirst pcreqNext stepVerdict addressesIn pcrepVerdict readPcrep writtenPcrep writeVerdict writePcrep metricsOf Profile.layoutIn
 worked-messages = refl

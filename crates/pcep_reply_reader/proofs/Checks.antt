@@ -11,7 +11,7 @@ use Rattle.model.specs.declared.Refusal.{Refusal}
 use Rattle.model.specs.declared.Verdict.the-variants.{Pass, Refuse}
 use Rattle.model.specs.Verdict.{refuseIf, _andThen_}
 use Rattle.model.specs.Calls.{roomVerdict}
-use Rattle.laws.proofs.Turns.{andThen-pass, refuseIf-pass, refuse-not-pass}
+use Rattle.laws.proofs.Turns.{andThen-pass, refuseIf-pass}
 use Rattle.pcep_model.specs.declared.Extent.{Extent}
 use Rattle.pcep_model.specs.declared.MessageKind.the-variants.{Pcrep}
 use Rattle.pcep_model.specs.declared.PcrepFields.{PcrepFields}
@@ -22,8 +22,7 @@ use Rattle.pcep_model.specs.Pcrep.{eroVerdict, addressesIn, routeIn, pcrepField
 use Rattle.pcep_message.specs.declared.objects.Objects.{Objects}
 use Rattle.pcep_message.specs.Framed.{FrameIs}
 use Rattle.pcep_metrics.specs.Along.{Passed}
-use Rattle.pcep_reply_reader.specs.declared.fields.CheckedPcrep.{CheckedPcrep}
-use Rattle.pcep_reply_reader.specs.CheckedPcrep.{restVerdict, Framed, CheckedPcrepIs}
+use Rattle.pcep_reply_reader.specs.CheckedPcrep.{restVerdict, Framed, PassedPcrep}
 
 -- a list that stands in a message is no longer than it
 pub list-short : (s : List ℕ) (x : Extent) → length (listIn s x) ≤ length s
@@ -36,28 +35,14 @@ rest-form body count addressRoom metricRoom e =
     .0
 
 module _ (s : List ℕ) (addressRoom metricRoom : ℕ) where
-  -- a refusal has nothing more to say
-  pub refused : (r : CheckedPcrep) (x : Refusal) → r .verdict ≡ Refuse x → Refuse x ≡ pcrepVerdict s addressRoom metricRoom → CheckedPcrepIs s addressRoom metricRoom r
-  refused r x v is =
-      record {
-        verdict = v ∙ is;
-        passed = λ p. absurd (refuse-not-pass x (sym v ∙ p));
-        fields = λ p. absurd (refuse-not-pass x (sym v ∙ p));
-        inside = λ p. absurd (refuse-not-pass x (sym v ∙ p));
-        route = λ p. absurd (refuse-not-pass x (sym v ∙ p));
-        form = λ p. absurd (refuse-not-pass x (sym v ∙ p));
-        addresses-fit = λ p. absurd (refuse-not-pass x (sym v ∙ p));
-        metrics-fit = λ p. absurd (refuse-not-pass x (sym v ∙ p));
-      }
-
-  pub by-frame : (x : Refusal) → messageVerdict Pcrep s ≡ Refuse x → Refuse x ≡ pcrepVerdict s addressRoom metricRoom
+  pub by-frame : (x : Refusal) → messageVerdict Pcrep s ≡ Refuse x → pcrepVerdict s addressRoom metricRoom ≡ Refuse x
   unfolding pcrepVerdict
-  by-frame x e = sym (rw e refl)
+  by-frame x e = rw e refl
 
   module _ (frame : messageVerdict Pcrep s ≡ Pass) where
-    pub by-metric : (wrongMetric s ≡ 0 → ⊥) → refuseIf true 21 1 ≡ pcrepVerdict s addressRoom metricRoom
+    pub by-metric : (wrongMetric s ≡ 0 → ⊥) → pcrepVerdict s addressRoom metricRoom ≡ refuseIf true 21 1
     unfolding pcrepVerdict
-    by-metric some = sym (rw (frame, ne-eqb (wrongMetric s) 0 some) refl)
+    by-metric some = rw (frame, ne-eqb (wrongMetric s) 0 some) refl
 
     module _ (none : wrongMetric s ≡ 0) (body : List ℕ) (is : body ≡ routeIn s) (count : ℕ) (counted : count ≡ length (metrics s)) where
       pub by-rest : restVerdict body count addressRoom metricRoom ≡ pcrepVerdict s addressRoom metricRoom
@@ -70,19 +55,19 @@ module _ (s : List ℕ) (addressRoom metricRoom : ℕ) where
       → Pass ≡ restVerdict (routeIn s) (length (metrics s)) addressRoom metricRoom
       → Passed s → (f : PcrepFields) → f ≡ pcrepFields s
       → (x : Extent) → x .start + x .size ≤ length s → listIn s x ≡ routeIn s
-      → CheckedPcrepIs s addressRoom metricRoom (record { verdict = Pass; fields = f; route = x })
+      → PassedPcrep s addressRoom metricRoom f x
   accepted same pass passed f are x inside is =
       let one = andThen-pass (eroVerdict (routeIn s) andThen roomVerdict (length (addressesIn (routeIn s))) addressRoom) (roomVerdict (length (metrics s)) metricRoom) .0 (sym pass) in
       let two = andThen-pass (eroVerdict (routeIn s)) (roomVerdict (length (addressesIn (routeIn s))) addressRoom) .0 (one .0) in
       record {
-        verdict = pass ∙ same;
-        passed = λ p. passed;
-        fields = λ p. are;
-        inside = λ p. inside;
-        route = λ p. is;
-        form = λ p. two .0;
-        addresses-fit = λ p. ltb-false addressRoom (length (addressesIn (routeIn s))) (refuseIf-pass (ltb addressRoom (length (addressesIn (routeIn s)))) 34 0 .0 (two .1));
-        metrics-fit = λ p. ltb-false metricRoom (length (metrics s)) (refuseIf-pass (ltb metricRoom (length (metrics s))) 34 0 .0 (one .1));
+        verdict = sym (pass ∙ same);
+        passed = passed;
+        fields = are;
+        inside = inside;
+        route = is;
+        form = two .0;
+        addresses-fit = ltb-false addressRoom (length (addressesIn (routeIn s))) (refuseIf-pass (ltb addressRoom (length (addressesIn (routeIn s)))) 34 0 .0 (two .1));
+        metrics-fit = ltb-false metricRoom (length (metrics s)) (refuseIf-pass (ltb metricRoom (length (metrics s))) 34 0 .0 (one .1));
       }
 
 -- a PCRep whose frame passes

@@ -6,10 +6,12 @@ use mathlib.Core.List.{List}
 use lib.ListN.{length, getD}
 use lib.Dec.{eqb, leb}
 use Rattle.model.specs.declared.Verdict.{Verdict}
-use Rattle.model.specs.declared.Verdict.the-variants.{Pass}
+use Rattle.model.specs.declared.Verdict.the-variants.{Pass, Refuse}
 use Rattle.model.specs.Verdict.{_andThen_}
 use Rattle.model.specs.Calls.{roomVerdict}
+use Rattle.pcep_model.specs.declared.Extent.{Extent}
 use Rattle.pcep_model.specs.declared.MessageKind.the-variants.{Pcrep}
+use Rattle.pcep_model.specs.declared.PcrepFields.{PcrepFields}
 use Rattle.pcep_model.specs.Objects.{objectsVerdict, messageVerdict}
 use Rattle.pcep_model.specs.Metrics.{metrics}
 use Rattle.pcep_model.specs.Pcreq.{listIn}
@@ -17,6 +19,7 @@ use Rattle.pcep_model.specs.Pcrep.{metFirst, eroVerdict, addressesIn, routeIn, 
 use Rattle.pcep_message.specs.Walked.{FirstsAre}
 use Rattle.pcep_metrics.specs.Along.{Passed}
 use Rattle.pcep_reply_reader.specs.declared.fields.CheckedPcrep.{CheckedPcrep}
+use Rattle.pcep_reply_reader.specs.declared.fields.CheckedPcrep.the-variants as Checked
 use Rattle.pcep_reply_reader.specs.declared.fields.Issue.{Issue}
 
 -- where the ERO that counts starts, 0 where a NO-PATH counts
@@ -43,12 +46,17 @@ pub record Framed (s firsts : List ℕ) (addresses count : ℕ) : Type 0 where
   pub counted : count ≡ length (metrics s)
   pub most : count ≤ 65535
 
-pub record CheckedPcrepIs (s : List ℕ) (addressRoom metricRoom : ℕ) (r : CheckedPcrep) : Type 0 where
-  pub verdict : r .verdict ≡ pcrepVerdict s addressRoom metricRoom
-  pub passed : r .verdict ≡ Pass → Passed s
-  pub fields : r .verdict ≡ Pass → r .fields ≡ pcrepFields s
-  pub inside : r .verdict ≡ Pass → r .route .start + r .route .size ≤ length s
-  pub route : r .verdict ≡ Pass → listIn s (r .route) ≡ routeIn s
-  pub form : r .verdict ≡ Pass → eroVerdict (routeIn s) ≡ Pass
-  pub addresses-fit : r .verdict ≡ Pass → length (addressesIn (routeIn s)) ≤ addressRoom
-  pub metrics-fit : r .verdict ≡ Pass → length (metrics s) ≤ metricRoom
+-- what is known where all checks pass, with the fields and where the ERO's body stands
+pub record PassedPcrep (s : List ℕ) (addressRoom metricRoom : ℕ) (f : PcrepFields) (x : Extent) : Type 0 where
+  pub verdict : pcrepVerdict s addressRoom metricRoom ≡ Pass
+  pub passed : Passed s
+  pub fields : f ≡ pcrepFields s
+  pub inside : x .start + x .size ≤ length s
+  pub route : listIn s x ≡ routeIn s
+  pub form : eroVerdict (routeIn s) ≡ Pass
+  pub addresses-fit : length (addressesIn (routeIn s)) ≤ addressRoom
+  pub metrics-fit : length (metrics s) ≤ metricRoom
+
+abbrev pub CheckedPcrepIs : List ℕ → ℕ → ℕ → CheckedPcrep → Type 0
+CheckedPcrepIs s addressRoom metricRoom (Checked.Refused r) = pcrepVerdict s addressRoom metricRoom ≡ Refuse r
+CheckedPcrepIs s addressRoom metricRoom (Checked.Passed f x) = PassedPcrep s addressRoom metricRoom f x

@@ -1,4 +1,5 @@
 // The fields of a PCRep, by where its first objects stand, and every check of one.
+use model::Refusal;
 use model::Verdict;
 use pcep_ero::address_count;
 use pcep_ero::ero_verdict;
@@ -94,30 +95,10 @@ fn rest_verdict(body: &[u8], metrics: usize, address_room: usize, metric_room: u
     Verdict::Pass
 }
 
-// What the checks of a PCRep say, and where they pass its fields and where its ERO's body stands.
-pub struct CheckedPcrep {
-    pub verdict: Verdict,
-    pub fields: PcrepFields,
-    pub route: Extent,
-}
-
-// Refused, with nothing taken.
-fn refused(verdict: Verdict) -> CheckedPcrep
-    ensures { λ r. ⌜ r .verdict ≡ verdict ⌝ }
-{
-    CheckedPcrep {
-        verdict,
-        fields: PcrepFields {
-            id: 0,
-            flags: 0,
-            found: false,
-            nature: 0,
-            c: false,
-            addresses: 0,
-            metrics: 0,
-        },
-        route: Extent { start: 0, size: 0 },
-    }
+// What the checks of a PCRep say: refused, or its fields and where its ERO's body stands.
+pub enum CheckedPcrep {
+    Refused(Refusal),
+    Passed { fields: PcrepFields, route: Extent },
 }
 
 // All checks of a PCRep, 36 to 41, 21, the form of its ERO, 34. For every byte slice.
@@ -128,22 +109,21 @@ pub fn check(message: &[u8], address_room: usize, metric_room: usize) -> Checked
     let firsts = framed.firsts;
     let first = framed.verdict;
     if let Verdict::Refuse(r) = first {
-        return refused(Verdict::Refuse(r));
+        return CheckedPcrep::Refused(r);
     }
     let met = judge(message);
     if met.wrong != 0 {
-        return refused(refuse(21, 1));
+        return CheckedPcrep::Refused(Refusal {
+            number: 21,
+            place: 1,
+        });
     }
     let route = extent_of(message, route_at(firsts[7] as usize, firsts[3] as usize), 4);
     let body = list_in(message, route);
     let rest = rest_verdict(body, met.count, address_room, metric_room);
     if let Verdict::Refuse(r) = rest {
-        return refused(Verdict::Refuse(r));
+        return CheckedPcrep::Refused(r);
     }
     let fields = fields_of(message, firsts, address_count(body), met.count);
-    CheckedPcrep {
-        verdict: Verdict::Pass,
-        fields,
-        route,
-    }
+    CheckedPcrep::Passed { fields, route }
 }

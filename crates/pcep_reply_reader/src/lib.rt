@@ -1,7 +1,7 @@
 // The call that reads a PCRep: its fields, and addresses and METRICs into lent buffers.
+use crate::fields::CheckedPcrep;
 use crate::fields::check;
 use buffers::lesser;
-use model::Verdict;
 use pcep_ero::put_addresses;
 use pcep_message::parts::list_in;
 use pcep_metrics::put_metrics;
@@ -22,14 +22,13 @@ pub fn read_pcrep(
 {
     let room = lesser(kinds.len(), lesser(flags.len(), values.len()));
     let checked = check(message, addresses.len(), room);
-    let fields = checked.fields;
-    let route = checked.route;
-    let verdict = checked.verdict;
-    if let Verdict::Refuse(r) = verdict {
-        return PcrepAnswer::Refused(r);
+    match checked {
+        CheckedPcrep::Refused(r) => PcrepAnswer::Refused(r),
+        CheckedPcrep::Passed { fields, route } => {
+            let count = fields.metrics as usize;
+            put_addresses(list_in(message, route), addresses);
+            put_metrics(message, count, kinds, flags, values);
+            PcrepAnswer::Read(fields)
+        }
     }
-    let count = fields.metrics as usize;
-    put_addresses(list_in(message, route), addresses);
-    put_metrics(message, count, kinds, flags, values);
-    PcrepAnswer::Read(fields)
 }

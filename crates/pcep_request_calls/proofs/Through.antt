@@ -1,6 +1,6 @@
 -- A call through a PCReq is the frame's refusal, or the call on the request that is carried: one law for trees and one for paths.
 use Prim.Native.Nat.{ℕ}
-use mathlib.Core.Path.{_≡_, refl, sym, ap, subst, _∙_}
+use mathlib.Core.Path.{_≡_, refl, sym, ap, subst}
 use mathlib.Core.List.{List}
 use lib.Ieee.{Float}
 use native.Mathlib.Omega.{arith}
@@ -15,13 +15,11 @@ use Rattle.model.specs.declared.Verdict.the-variants.{Pass, Refuse}
 use Rattle.model.specs.Request.{limitsOfBits}
 use Rattle.model.specs.Calls.{Outcome}
 use Rattle.laws.proofs.Lists.{over-nothing}
-use Rattle.request.specs.CheckedRequest.{requestOf}
+use Rattle.request.specs.CheckedRequest.{requestOf, requestFor}
 use Rattle.tree_fields.specs.TreeResult.{TreeIn}
-use Rattle.pcep_model.specs.declared.MessageKind.the-variants.{Pcreq}
-use Rattle.pcep_model.specs.Objects.{messageVerdict}
 use Rattle.pcep_model.specs.Pcreq.{listIn, carried, behind}
-use Rattle.pcep_request_reader.specs.declared.fields.ParsedPcreq.{ParsedPcreq}
-use Rattle.pcep_request_reader.specs.ParsedPcreq.{ParsedPcreqIs}
+use Rattle.pcep_request_reader.specs.declared.fields.PcreqParts.{PcreqParts}
+use Rattle.pcep_request_reader.specs.ParsedPcreq.{PartsAre}
 use Rattle.pcep_request_calls.specs.declared.CarriedRequest.{CarriedRequest}
 use Rattle.pcep_request_calls.specs.Through.{CarriedRequestIs, PathIn}
 
@@ -56,18 +54,15 @@ tree-refused v o levels addresses marks costs x e =
 
 -- what was taken apart, with the limits of its bits, is the request carried
 pub carried-request
-    : (s : List ℕ) (t : ParsedPcreq) → ParsedPcreqIs s t → t .verdict ≡ Pass
+    : (s : List ℕ) (t : PcreqParts) → PartsAre s t
     → (limits : Limits) → limits ≡ limitsOfBits (t .fields .bandwidth) (t .bounded) (t .bound)
     → (profile : List ℕ) (ingress : ℕ)
     → requestOf profile ingress (t .fields .source .0) (t .fields .destination .0) (listIn s (t .fields .include)) (listIn s (t .fields .exclude)) limits ≡ carried profile ingress s
-carried-request s t is pass limits e profile ingress = rw (e, is .bounded pass, is .bound pass, (is .fields pass) .are) refl
+carried-request s t is limits e profile ingress = rw (e, is .bounded, is .bound, is .fields .are) refl
 
 -- the request that a call is made on, with the lists as they were lent to it, is the one carried
-module _ (s : List ℕ) (r : CarriedRequest) (is : CarriedRequestIs s r) (pass : r .verdict ≡ Pass) where
-  pub frame-right : messageVerdict Pcreq s ≡ Pass
-  frame-right = sym (is .verdict) ∙ pass
-
-  pub same-request
-      : (profile : List ℕ) (ingress : ℕ) (include exclude : List ℕ) → include ≡ listIn s (r .include) → exclude ≡ listIn s (r .exclude)
-      → requestOf profile ingress (r .source .0) (r .destination .0) include exclude (r .limits) ≡ carried profile ingress s
-  same-request profile ingress include exclude i e = rw (i, e) (is .request pass profile ingress)
+pub same-request
+    : (ingress : ℕ) (s : List ℕ) (r : CarriedRequest) → CarriedRequestIs ingress s r
+    → (profile include exclude : List ℕ) → include ≡ listIn s (r .include) → exclude ≡ listIn s (r .exclude)
+    → requestFor profile (r .asked) include exclude ≡ carried profile ingress s
+same-request ingress s r is profile include exclude i e = rw (i, e) (is .request profile)

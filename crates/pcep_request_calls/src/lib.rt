@@ -1,52 +1,62 @@
 // Tree, first and next through a PCReq, with the profile and the ingress domain beside it: 36 to 40, then what the call answers on the lists and
 // numbers that the message carries.
 use model::DomainIndex;
-use model::Limits;
-use model::NodeAddress;
 use model::PathAnswer;
+use model::Refusal;
 use model::TreeAnswer;
-use model::Verdict;
 use path_calls::first;
 use path_calls::next;
 use pcep_message::parts::list_in;
 use pcep_model::Extent;
+use pcep_request_reader::fields::ParsedPcreq;
 use pcep_request_reader::fields::take_apart;
+use request::Asked;
 use request::limits::limits_of;
 use tree_fields::tree_numbers;
 ghost use lib.ListN.{length};
 ghost use Rattle.pcep_model.specs.Pcreq.{pcreqTree, pcreqFirst, pcreqNext};
 ghost use Rattle.buffers.specs.Capacity.{least4};
 ghost use Rattle.tree_fields.specs.TreeResult.{TreeIn};
-ghost use Rattle.pcep_request_calls.specs.Through.{CarriedRequestIs, PathIn};
+ghost use Rattle.pcep_request_calls.specs.Through.{CarriedIs, PathIn};
 
-// What a PCReq carries, as a call takes it, where its frame passes.
+// What a PCReq carries, as a call takes it.
 struct CarriedRequest {
-    verdict: Verdict,
-    source: NodeAddress,
-    destination: NodeAddress,
+    asked: Asked,
     include: Extent,
     exclude: Extent,
-    limits: Limits,
 }
 
-fn carried_by(message: &[u8]) -> CarriedRequest
-    ensures { λ r. ⌜ CarriedRequestIs (now (message .entry)) r ⌝ }
+// A PCReq refused by the checks of its frame, or the request that it carries.
+enum Carried {
+    Refused(Refusal),
+    Request(CarriedRequest),
+}
+
+fn carried_by(ingress: DomainIndex, message: &[u8]) -> Carried
+    ensures { λ r. ⌜ CarriedIs (ingress .0) (now (message .entry)) r ⌝ }
 {
-    let taken = take_apart(message);
-    let fields = taken.fields;
-    let verdict = taken.verdict;
-    let limits = limits_of(fields.bandwidth, taken.bounded, taken.bound);
-    let source = fields.source;
-    let destination = fields.destination;
-    let include = fields.include;
-    let exclude = fields.exclude;
-    CarriedRequest {
-        verdict,
-        source,
-        destination,
-        include,
-        exclude,
-        limits,
+    let parsed = take_apart(message);
+    match parsed {
+        ParsedPcreq::Refused(r) => Carried::Refused(r),
+        ParsedPcreq::Parsed(parts) => {
+            let fields = parts.fields;
+            let limits = limits_of(fields.bandwidth, parts.bounded, parts.bound);
+            let source = fields.source;
+            let destination = fields.destination;
+            let include = fields.include;
+            let exclude = fields.exclude;
+            let asked = Asked {
+                ingress,
+                source,
+                destination,
+                limits,
+            };
+            Carried::Request(CarriedRequest {
+                asked,
+                include,
+                exclude,
+            })
+        }
     }
 }
 
@@ -62,26 +72,25 @@ pub fn pcreq_tree(
 ) -> TreeAnswer
     ensures { λ r. ⌜ TreeIn (pcreqTree (now (profile .entry)) (ingress .0) (now (message .entry)) (least4 (now (level .entry)) (now (address .entry)) (now (reachable .entry)) (now (cost .entry)))) (now (level .entry)) (now (address .entry)) (now (reachable .entry)) (now (cost .entry)) r (now (level .exit)) (now (address .exit)) (now (reachable .exit)) (now (cost .exit)) ⌝ }
 {
-    let carried = carried_by(message);
-    let verdict = carried.verdict;
-    if let Verdict::Refuse(r) = verdict {
-        return TreeAnswer::Refused(r);
+    let carried = carried_by(ingress, message);
+    match carried {
+        Carried::Refused(r) => TreeAnswer::Refused(r),
+        Carried::Request(request) => {
+            let asked = request.asked;
+            let include = list_in(message, request.include);
+            let exclude = list_in(message, request.exclude);
+            tree_numbers(
+                profile,
+                asked,
+                include,
+                exclude,
+                level,
+                address,
+                reachable,
+                cost,
+            )
+        }
     }
-    let include = list_in(message, carried.include);
-    let exclude = list_in(message, carried.exclude);
-    tree_numbers(
-        profile,
-        ingress,
-        carried.source,
-        carried.destination,
-        include,
-        exclude,
-        carried.limits,
-        level,
-        address,
-        reachable,
-        cost,
-    )
 }
 
 // The first of the shortest paths, or why there is none.
@@ -93,23 +102,16 @@ pub fn pcreq_first(
 ) -> PathAnswer
     ensures { λ r. ⌜ PathIn (pcreqFirst (now (profile .entry)) (ingress .0) (now (message .entry)) (length (now (path .entry)))) (now (path .entry)) r (now (path .exit)) ⌝ }
 {
-    let carried = carried_by(message);
-    let verdict = carried.verdict;
-    if let Verdict::Refuse(r) = verdict {
-        return PathAnswer::Refused(r);
+    let carried = carried_by(ingress, message);
+    match carried {
+        Carried::Refused(r) => PathAnswer::Refused(r),
+        Carried::Request(request) => {
+            let asked = request.asked;
+            let include = list_in(message, request.include);
+            let exclude = list_in(message, request.exclude);
+            first(profile, request.asked, include, exclude, path)
+        }
     }
-    let include = list_in(message, carried.include);
-    let exclude = list_in(message, carried.exclude);
-    first(
-        profile,
-        ingress,
-        carried.source,
-        carried.destination,
-        include,
-        exclude,
-        carried.limits,
-        path,
-    )
 }
 
 // The next of the shortest paths after a given list, which need not be a path.
@@ -122,22 +124,14 @@ pub fn pcreq_next(
 ) -> PathAnswer
     ensures { λ r. ⌜ PathIn (pcreqNext (now (profile .entry)) (ingress .0) (now (message .entry)) (now (given .entry)) (length (now (path .entry)))) (now (path .entry)) r (now (path .exit)) ⌝ }
 {
-    let carried = carried_by(message);
-    let verdict = carried.verdict;
-    if let Verdict::Refuse(r) = verdict {
-        return PathAnswer::Refused(r);
+    let carried = carried_by(ingress, message);
+    match carried {
+        Carried::Refused(r) => PathAnswer::Refused(r),
+        Carried::Request(request) => {
+            let asked = request.asked;
+            let include = list_in(message, request.include);
+            let exclude = list_in(message, request.exclude);
+            next(profile, request.asked, include, exclude, given, path)
+        }
     }
-    let include = list_in(message, carried.include);
-    let exclude = list_in(message, carried.exclude);
-    next(
-        profile,
-        ingress,
-        carried.source,
-        carried.destination,
-        include,
-        exclude,
-        carried.limits,
-        given,
-        path,
-    )
 }

@@ -11,26 +11,25 @@ use Rattle.model.specs.declared.Refusal.{Refusal}
 use Rattle.model.specs.declared.Verdict.{Verdict}
 use Rattle.model.specs.declared.Verdict.the-variants.{Pass, Refuse}
 use Rattle.model.specs.Verdict.{refuseIf, _andThen_}
-use Rattle.model.specs.declared.ListKind.the-variants.{Include, Exclude}
-use Rattle.model.specs.Subobject.{formVerdict}
-use Rattle.model.specs.Request.{sizeVerdict}
+use Rattle.model.specs.Request.{sizesVerdict, formsVerdict}
 use Rattle.model.specs.Calls.{roomVerdict}
-use Rattle.laws.proofs.Turns.{andThen-pass, refuseIf-pass, refuse-not-pass}
-use Rattle.request.specs.CheckedRequest.{listsVerdict}
+use Rattle.laws.proofs.Turns.{andThen-pass, refuseIf-pass}
+use Rattle.pcep_model.specs.declared.MessageKind.the-variants.{Pcreq}
 use Rattle.pcep_model.specs.declared.PcreqFields.{PcreqFields}
+use Rattle.pcep_model.specs.Objects.{messageVerdict}
 use Rattle.pcep_model.specs.Metrics.{metrics, outOfRange}
 use Rattle.pcep_model.specs.Pcreq.{bandwidthOf, floatsVerdict, listIn, includeExtent, excludeExtent, pcreqFields, pcreqVerdict}
-use Rattle.pcep_request_reader.specs.declared.fields.ParsedPcreq.{ParsedPcreq}
-use Rattle.pcep_request_reader.specs.ParsedPcreq.{ParsedPcreqIs}
-use Rattle.pcep_request_reader.specs.Reading.{restVerdict, CheckedPcreqIs}
+use Rattle.pcep_request_reader.specs.declared.fields.PcreqParts.{PcreqParts}
+use Rattle.pcep_request_reader.specs.ParsedPcreq.{PartsAre}
+use Rattle.pcep_request_reader.specs.Reading.{restVerdict, PassedPcreq}
 
-module _ (s : List ℕ) (t : ParsedPcreq) (is : ParsedPcreqIs s t) (pass : t .verdict ≡ Pass) where
+module _ (s : List ℕ) (t : PcreqParts) (is : PartsAre s t) where
   are : t .fields ≡ pcreqFields s
-  are = (is .fields pass) .are
+  are = is .fields .are
 
-  pub lists-are : (a b : List ℕ) (v : Verdict) → v ≡ listsVerdict a b → a ≡ listIn s (t .fields .include) → b ≡ listIn s (t .fields .exclude) → v ≡ listsVerdict (listIn s (includeExtent s)) (listIn s (excludeExtent s))
-  lists-are a b v e x y =
-      e ∙ ap₂ listsVerdict (x ∙ ap (λ (f : PcreqFields). listIn s (f .include)) are) (y ∙ ap (λ (f : PcreqFields). listIn s (f .exclude)) are)
+  -- a test of both lists is one of the lists lent
+  pub lists-are : (test : List ℕ → List ℕ → Verdict) (a b : List ℕ) → a ≡ listIn s (t .fields .include) → b ≡ listIn s (t .fields .exclude) → test a b ≡ test (listIn s (includeExtent s)) (listIn s (excludeExtent s))
+  lists-are test a b x y = ap₂ test (x ∙ ap (λ (f : PcreqFields). listIn s (f .include)) are) (y ∙ ap (λ (f : PcreqFields). listIn s (f .exclude)) are)
 
   module _ (room : ℕ) where
     wide : leb 0x7f800000 (t .fields .bandwidth) ≡ outOfRange (bandwidthOf s)
@@ -44,54 +43,50 @@ module _ (s : List ℕ) (t : ParsedPcreq) (is : ParsedPcreqIs s t) (pass : t .ve
       right = sym wide ∙ lt-leb 0x7f800000 (t .fields .bandwidth) in-range
 
       pub by-metric : t .wrong ≡ true → refuseIf true 21 1 ≡ restVerdict s room
-      by-metric w = sym (rw (right, sym (is .wrong pass) ∙ w) refl)
+      by-metric w = sym (rw (right, sym (is .wrong) ∙ w) refl)
 
       module _ (none : t .wrong ≡ false) where
         floats : floatsVerdict s ≡ Pass
-        floats = rw (right, sym (is .wrong pass) ∙ none) refl
+        floats = rw (right, sym (is .wrong) ∙ none) refl
 
-        pub by-lists : (x : Refusal) → Refuse x ≡ listsVerdict (listIn s (includeExtent s)) (listIn s (excludeExtent s)) → Refuse x ≡ restVerdict s room
-        by-lists x e = sym (rw (floats, sym e) refl)
+        pub by-sizes : (x : Refusal) → sizesVerdict (listIn s (includeExtent s)) (listIn s (excludeExtent s)) ≡ Refuse x → Refuse x ≡ restVerdict s room
+        by-sizes x e = sym (rw (floats, e) refl)
 
-        module _ (lists : Pass ≡ listsVerdict (listIn s (includeExtent s)) (listIn s (excludeExtent s))) where
-          count : t .fields .metrics ≡ length (metrics s)
-          count = ap (λ (f : PcreqFields). f .metrics) are
+        module _ (sizes : sizesVerdict (listIn s (includeExtent s)) (listIn s (excludeExtent s)) ≡ Pass) where
+          pub by-forms : (x : Refusal) → formsVerdict (listIn s (includeExtent s)) (listIn s (excludeExtent s)) ≡ Refuse x → Refuse x ≡ restVerdict s room
+          by-forms x e = sym (rw (floats, sizes, e) refl)
 
-          pub by-room : room < t .fields .metrics → refuseIf true 34 0 ≡ restVerdict s room
-          by-room h = let c = count in sym (rw (floats, sym lists, lt-ltb room (length (metrics s)) (omega arith)) refl)
+          module _ (forms : formsVerdict (listIn s (includeExtent s)) (listIn s (excludeExtent s)) ≡ Pass) where
+            count : t .fields .metrics ≡ length (metrics s)
+            count = ap (λ (f : PcreqFields). f .metrics) are
 
-          pub rest-passes : t .fields .metrics ≤ room → Pass ≡ restVerdict s room
-          rest-passes h = let c = count in sym (rw (floats, sym lists, le-ltb room (length (metrics s)) (omega arith)) refl)
+            pub by-room : room < t .fields .metrics → refuseIf true 34 0 ≡ restVerdict s room
+            by-room h = let c = count in sym (rw (floats, sizes, forms, lt-ltb room (length (metrics s)) (omega arith)) refl)
+
+            pub rest-passes : t .fields .metrics ≤ room → Pass ≡ restVerdict s room
+            rest-passes h = let c = count in sym (rw (floats, sizes, forms, le-ltb room (length (metrics s)) (omega arith)) refl)
 
 -- ---- with the frame's
 
-module _ (s : List ℕ) (t : ParsedPcreq) (is : ParsedPcreqIs s t) (room : ℕ) where
-  pub frame-refused : (x : Refusal) → t .verdict ≡ Refuse x → CheckedPcreqIs s room (record { verdict = Refuse x; fields = t .fields })
+module _ (s : List ℕ) (room : ℕ) where
+  pub by-frame : (x : Refusal) → messageVerdict Pcreq s ≡ Refuse x → pcreqVerdict s room ≡ Refuse x
   unfolding pcreqVerdict
-  frame-refused x e =
-      record {
-        verdict = sym (rw (sym (is .verdict) ∙ e) refl);
-        passed = λ p. absurd (refuse-not-pass x p);
-        fields = λ p. absurd (refuse-not-pass x p);
-        fits = λ p. absurd (refuse-not-pass x p);
-      }
+  by-frame x e = rw e refl
 
-  pub frame-passes : t .verdict ≡ Pass → (v : Verdict) → v ≡ restVerdict s room → CheckedPcreqIs s room (record { verdict = v; fields = t .fields })
+  pub behind-frame : messageVerdict Pcreq s ≡ Pass → pcreqVerdict s room ≡ restVerdict s room
   unfolding pcreqVerdict
-  frame-passes pass v e =
+  behind-frame e = rw e refl
+
+  pub all-pass : (t : PcreqParts) → PartsAre s t → restVerdict s room ≡ Pass → PassedPcreq s room (t .fields)
+  all-pass t is pass =
       let i = listIn s (includeExtent s) in
       let x = listIn s (excludeExtent s) in
       record {
-        verdict = e ∙ sym (rw (sym (is .verdict) ∙ pass) (assoc (floatsVerdict s) (sizeVerdict i 0) (sizeVerdict x 1) (formVerdict Include i) (formVerdict Exclude x) (roomVerdict (length (metrics s)) room)));
-        passed = λ p. is .passed pass;
-        fields = λ p. (is .fields pass) .are;
+        verdict = behind-frame (is .verdict) ∙ pass;
+        passed = is .passed;
+        fields = is .fields .are;
         fits =
-            λ p.
             ltb-false room (length (metrics s))
             (refuseIf-pass (ltb room (length (metrics s))) 34 0 .0
-            (andThen-pass (floatsVerdict s andThen listsVerdict (listIn s (includeExtent s)) (listIn s (excludeExtent s))) (roomVerdict (length (metrics s)) room) .0 (sym e ∙ p) .1));
+            (andThen-pass (floatsVerdict s andThen sizesVerdict i x andThen formsVerdict i x) (roomVerdict (length (metrics s)) room) .0 pass .1));
       }
-    where
-      assoc : (b c d e f g : Verdict) → b andThen c andThen d andThen e andThen f andThen g ≡ b andThen (c andThen d andThen e andThen f) andThen g
-      assoc Pass c d e f g = refl
-      assoc (Refuse r) c d e f g = refl

@@ -1,11 +1,11 @@
 // What a PCReq carries, by where its first objects stand: its fields, and the METRIC that is judged as the bound.
 use model::NodeAddress;
+use model::Refusal;
 use model::Verdict;
 use pcep_message::frame;
 use pcep_message::parts::bits_at;
 use pcep_message::parts::extent_of;
 use pcep_metrics::judge;
-use pcep_model::Extent;
 use pcep_model::MessageKind;
 use pcep_model::PcreqFields;
 use wire::u32_at;
@@ -45,38 +45,21 @@ fn fields_of(message: &[u8], firsts: [u16; 18], metrics: usize) -> PcreqFields
     }
 }
 
-// What the checks of the frame say, 36 to 40, and where they pass the fields, whether a bound counts, its bits, and whether some METRIC is out of range.
-pub struct ParsedPcreq {
-    pub verdict: Verdict,
+// The fields of a PCReq, whether a bound counts, its bits, and whether some METRIC is out of range.
+pub struct PcreqParts {
     pub fields: PcreqFields,
     pub bounded: bool,
     pub bound: u32,
     pub wrong: bool,
 }
 
-// Nothing taken, where the frame is refused.
-fn untaken(verdict: Verdict) -> ParsedPcreq
-    ensures { λ r. ⌜ r .verdict ≡ verdict ⌝ }
-{
-    ParsedPcreq {
-        verdict,
-        fields: PcreqFields {
-            id: 0,
-            flags: 0,
-            source: NodeAddress(0),
-            destination: NodeAddress(0),
-            bandwidth: 0,
-            metrics: 0,
-            include: Extent { start: 0, size: 0 },
-            exclude: Extent { start: 0, size: 0 },
-        },
-        bounded: false,
-        bound: 0,
-        wrong: false,
-    }
+// A PCReq refused by the checks of its frame, 36 to 40, or taken apart.
+pub enum ParsedPcreq {
+    Refused(Refusal),
+    Parsed(PcreqParts),
 }
 
-// A PCReq taken apart. For every byte slice.
+// For every byte slice.
 pub fn take_apart(message: &[u8]) -> ParsedPcreq
     ensures { λ r. ⌜ ParsedPcreqIs (now (message .entry)) r ⌝ }
 {
@@ -84,16 +67,15 @@ pub fn take_apart(message: &[u8]) -> ParsedPcreq
     let firsts = framed.firsts;
     let verdict = framed.verdict;
     if let Verdict::Refuse(r) = verdict {
-        return untaken(Verdict::Refuse(r));
+        return ParsedPcreq::Refused(r);
     }
     let met = judge(message);
     let fields = fields_of(message, firsts, met.count);
     let at = judged(met.bound, met.wrong);
-    ParsedPcreq {
-        verdict: Verdict::Pass,
+    ParsedPcreq::Parsed(PcreqParts {
         fields,
         bounded: at != 0,
         bound: bits_at(message, at, 8),
         wrong: met.wrong != 0,
-    }
+    })
 }

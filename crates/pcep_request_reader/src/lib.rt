@@ -1,37 +1,41 @@
 // The call that reads a PCReq: the checks whose inputs it takes, the fields, and the METRICs into lent buffers.
 use crate::fields::ParsedPcreq;
+use crate::fields::PcreqParts;
 use crate::fields::take_apart;
 use buffers::lesser;
 use model::Verdict;
 use pcep_message::parts::list_in;
 use pcep_metrics::put_metrics;
 use pcep_model::PcreqAnswer;
-use pcep_model::PcreqFields;
 use refusal::refuse;
-use request::checks::lists_verdict;
+use request::checks::forms_verdict;
+use request::checks::sizes_verdict;
 ghost use mathlib.Core.Path.{_≡_};
-ghost use Rattle.model.specs.declared.Verdict.the-variants.{Pass};
-ghost use Rattle.pcep_request_reader.specs.ParsedPcreq.{ParsedPcreqIs};
+ghost use Rattle.pcep_request_reader.specs.ParsedPcreq.{PartsAre};
 ghost use Rattle.pcep_request_reader.specs.Reading.{ReadBy, CheckedPcreqIs, restVerdict};
 
 pub mod fields;
 
 // What is left to check of a PCReq whose frame passes: 21, 22, the form of both lists, then 34.
-fn rest_verdict(message: &[u8], taken: ParsedPcreq, room: usize) -> Verdict
-    requires { ⌜ (ParsedPcreqIs (now message) taken) × (taken .verdict ≡ Pass) ⌝ }
+fn rest_verdict(message: &[u8], parts: PcreqParts, room: usize) -> Verdict
+    requires { ⌜ PartsAre (now message) parts ⌝ }
     ensures { λ r. ⌜ r ≡ restVerdict (now (message .entry)) room ⌝ }
 {
-    let fields = taken.fields;
+    let fields = parts.fields;
     if 0x7F800000 <= fields.bandwidth {
         return refuse(21, 0);
     }
-    if taken.wrong {
+    if parts.wrong {
         return refuse(21, 1);
     }
     let include = list_in(message, fields.include);
     let exclude = list_in(message, fields.exclude);
-    let lists = lists_verdict(include, exclude);
-    if let Verdict::Refuse(r) = lists {
+    let sizes = sizes_verdict(include, exclude);
+    if let Verdict::Refuse(r) = sizes {
+        return Verdict::Refuse(r);
+    }
+    let forms = forms_verdict(include, exclude);
+    if let Verdict::Refuse(r) = forms {
         return Verdict::Refuse(r);
     }
     if room < fields.metrics as usize {
@@ -40,26 +44,22 @@ fn rest_verdict(message: &[u8], taken: ParsedPcreq, room: usize) -> Verdict
     Verdict::Pass
 }
 
-// What the checks of a PCReq say, and its fields where they pass.
-struct CheckedPcreq {
-    verdict: Verdict,
-    fields: PcreqFields,
-}
-
-fn check(message: &[u8], room: usize) -> CheckedPcreq
+// The first check of a PCReq that refuses, or its fields.
+fn check(message: &[u8], room: usize) -> PcreqAnswer
     ensures { λ r. ⌜ CheckedPcreqIs (now (message .entry)) room r ⌝ }
 {
-    let taken = take_apart(message);
-    let fields = taken.fields;
-    let first = taken.verdict;
-    if let Verdict::Refuse(r) = first {
-        return CheckedPcreq {
-            verdict: Verdict::Refuse(r),
-            fields,
-        };
+    let parsed = take_apart(message);
+    match parsed {
+        ParsedPcreq::Refused(r) => PcreqAnswer::Refused(r),
+        ParsedPcreq::Parsed(parts) => {
+            let rest = rest_verdict(message, parts, room);
+            if let Verdict::Refuse(r) = rest {
+                return PcreqAnswer::Refused(r);
+            }
+            let fields = parts.fields;
+            PcreqAnswer::Read(fields)
+        }
     }
-    let verdict = rest_verdict(message, taken, room);
-    CheckedPcreq { verdict, fields }
 }
 
 // The fields of a PCReq, and kind, flags and value of each METRIC in lent buffers. On a refusal they keep what they held. For every byte slice.
@@ -73,12 +73,12 @@ pub fn read_pcreq(
 {
     let room = lesser(kinds.len(), lesser(flags.len(), values.len()));
     let checked = check(message, room);
-    let fields = checked.fields;
-    let verdict = checked.verdict;
-    if let Verdict::Refuse(r) = verdict {
-        return PcreqAnswer::Refused(r);
+    match checked {
+        PcreqAnswer::Refused(r) => PcreqAnswer::Refused(r),
+        PcreqAnswer::Read(fields) => {
+            let count = fields.metrics as usize;
+            put_metrics(message, count, kinds, flags, values);
+            PcreqAnswer::Read(fields)
+        }
     }
-    let count = fields.metrics as usize;
-    put_metrics(message, count, kinds, flags, values);
-    PcreqAnswer::Read(fields)
 }

@@ -8,7 +8,7 @@ use lib.ListN.{length}
 use lib.Dec.{leb, ltb}
 use Rattle.model.specs.declared.Verdict.the-variants.{Pass}
 use Rattle.model.specs.Verdict.{refuseIf, _andThen_, inTurn}
-use Rattle.model.specs.Profile.{Layout, domainCount, bandwidthBits, hopAt, hopMalformed, hopMisordered, hopVerdict, hopStart, hopCount, headerWrong, countsWrong, lengthWrong, headerVerdict}
+use Rattle.model.specs.Profile.{Layout, domainCount, otherCost, bandwidthBits, hopAt, hopMalformed, hopMisordered, hopVerdict, hopStart, hopCount, headerWrong, countsWrong, lengthWrong, headerVerdict}
 use Rattle.laws.proofs.Tests.{or-neither}
 use Rattle.profile_record_checks.specs.Misplaced.{hopMisplaced}
 use Rattle.laws.proofs.Turns.{andThen-refuseIf, refuseIf-pass, inTurn-pass-all}
@@ -27,7 +27,7 @@ module _ (L : Layout) (s : List ℕ) where
   unfolding hopMalformed
   numeric i e =
       let h = hopAt L s i in
-      leb-false _ _ (or-neither (leb (domainCount s) (h .from .0) || leb (domainCount s) (h .to .0) || ltb (L .mostCost) (h .cost)) _ e .1)
+      leb-false _ _ (or-neither (leb (domainCount s) (h .from .0) || leb (domainCount s) (h .to .0) || ltb (L .mostCost) (h .cost) || ltb (L .mostCost) (otherCost L s i)) _ e .1)
 
   module _ (n : ℕ) (passed : inTurn (hopVerdict L s) 0 n ≡ Pass) (k : ℕ) (h : k < n) where
     pub all-ordered : hopMisordered L s k ≡ false
@@ -40,7 +40,7 @@ module _ (L : Layout) (s : List ℕ) where
   pub passed-header : headerVerdict L s ≡ Pass → (12 ≤ length s) × (length s ≡ hopStart L s (hopCount s))
   unfolding headerVerdict lengthWrong
   passed-header e =
-      let last = andThen-refuseIf (refuseIf (ltb (length s) 12) 10 0 andThen refuseIf (headerWrong s) 11 0 andThen refuseIf (countsWrong L s) 12 0) (lengthWrong L s) 13 0 .0 e in
-      let third = andThen-refuseIf (refuseIf (ltb (length s) 12) 10 0 andThen refuseIf (headerWrong s) 11 0) (countsWrong L s) 12 0 .0 (last .0) in
-      let second = andThen-refuseIf (refuseIf (ltb (length s) 12) 10 0) (headerWrong s) 11 0 .0 (third .0) in
+      let last = andThen-refuseIf (refuseIf (ltb (length s) 12) 10 0 andThen refuseIf (headerWrong L s) 11 0 andThen refuseIf (countsWrong L s) 12 0) (lengthWrong L s) 13 0 .0 e in
+      let third = andThen-refuseIf (refuseIf (ltb (length s) 12) 10 0 andThen refuseIf (headerWrong L s) 11 0) (countsWrong L s) 12 0 .0 (last .0) in
+      let second = andThen-refuseIf (refuseIf (ltb (length s) 12) 10 0) (headerWrong L s) 11 0 .0 (third .0) in
       (ltb-false _ _ (refuseIf-pass (ltb (length s) 12) 10 0 .0 (second .0)), eqb-true _ _ (not-false _ (last .1)))

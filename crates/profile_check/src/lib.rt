@@ -6,11 +6,11 @@ use profile_record_checks::domain::domains_verdict;
 use profile_record_checks::header::header_verdict;
 use profile_record_checks::hop::hops_verdict;
 use profile_records::layout::Layout;
-use profile_records::layout::first_version;
+use profile_records::layout::layout_in;
 ghost use mathlib.Core.Path.{_≡_};
 ghost use Rattle.model.specs.Answers.{numbersOfProfile};
 ghost use Rattle.model.specs.Calls.{checkProfile};
-ghost use Rattle.model.specs.Profile.{profileVerdict, version1};
+ghost use Rattle.model.specs.Profile.{profileVerdict, verdictOn};
 ghost use Rattle.profile_records.specs.Layout.{layoutOf, SoundLayout};
 
 pub mod crowd;
@@ -44,11 +44,11 @@ pub fn profile_verdict(s: &[u8], layout: Layout) -> Verdict
     crowded_verdict(s, layout)
 }
 
-// The verdict on a profile of version 1, for every byte slice.
+// The verdict on a profile of the layout that its own bytes say, for every byte slice.
 pub fn verdict_on(profile: &[u8]) -> Verdict
-    ensures { λ r. ⌜ r ≡ profileVerdict version1 (now (profile .entry)) ⌝ }
+    ensures { λ r. ⌜ r ≡ verdictOn (now (profile .entry)) ⌝ }
 {
-    profile_verdict(profile, first_version())
+    profile_verdict(profile, layout_in(profile))
 }
 
 // Whether the calculator takes a profile, and by which number and at which place it refuses it. For every byte slice.

@@ -5,9 +5,7 @@ use model::NodeAddress;
 use profile_records::header::hop_count;
 use profile_records::layout::Layout;
 ghost use mathlib.Core.Path.{_≡_};
-ghost use Rattle.model.specs.declared.Verdict.the-variants.{Pass};
-ghost use Rattle.model.specs.Profile.{profileVerdict};
-ghost use Rattle.profile_records.specs.Layout.{layoutOf, SoundLayout};
+ghost use Rattle.profile_records.specs.Layout.{layoutOf, RightProfile};
 ghost use Rattle.profile_hop_range.specs.Ranges.{findKey, PairRange, TailRange};
 
 pub mod search;
@@ -30,7 +28,7 @@ fn find_key(from: DomainIndex, to: DomainIndex, tail: NodeAddress) -> u64
 
 // The hop records of a pair of domains.
 pub fn pair_range(s: &[u8], layout: Layout, from: DomainIndex, to: DomainIndex) -> HopRange
-    requires { ⌜ SoundLayout (layoutOf layout) × (profileVerdict (layoutOf layout) (now s) ≡ Pass) ⌝ }
+    requires { ⌜ RightProfile (layoutOf layout) (now s) ⌝ }
     ensures { λ r. ⌜ PairRange (layoutOf layout) (now (s .entry)) (from .0) (to .0) (r .first) (r .last) ⌝ }
 {
     let hops = hop_count(s) as usize;
@@ -51,7 +49,7 @@ pub fn tail_range(
     to: DomainIndex,
     tail: NodeAddress,
 ) -> HopRange
-    requires { ⌜ SoundLayout (layoutOf layout) × (profileVerdict (layoutOf layout) (now s) ≡ Pass) ⌝ }
+    requires { ⌜ RightProfile (layoutOf layout) (now s) ⌝ }
     requires { ⌜ PairRange (layoutOf layout) (now s) (from .0) (to .0) (pair .first) (pair .last) ⌝ }
     ensures { λ r. ⌜ TailRange (layoutOf layout) (now (s .entry)) (from .0) (to .0) (tail .0) (r .first) (r .last) ⌝ }
 {

@@ -5,9 +5,8 @@ use profile_records::layout::Layout;
 use wire::u32_at;
 ghost use mathlib.Core.Path.{_≡_};
 ghost use Prim.Native.Nat.{_≤_};
-ghost use Rattle.model.specs.declared.Verdict.the-variants.{Pass};
-ghost use Rattle.model.specs.Profile.{hopCount, hopAt, profileVerdict};
-ghost use Rattle.profile_records.specs.Layout.{layoutOf, SoundLayout, HopWithin};
+ghost use Rattle.model.specs.Profile.{hopCount, hopAt};
+ghost use Rattle.profile_records.specs.Layout.{layoutOf, RightProfile, HopWithin};
 ghost use Rattle.profile_hop_range.specs.Ranges.{keyOf};
 ghost use Rattle.profile_hop_range.specs.Search.{LowerBound, KeyRange};
 
@@ -24,7 +23,7 @@ fn key_at(s: &[u8], layout: Layout, i: usize) -> u64
 
 // The first of the records from `from` up to `to` whose key is not below `key`, or `to` where there is none.
 fn lower_bound(s: &[u8], layout: Layout, from: usize, to: usize, key: u64) -> usize
-    requires { ⌜ SoundLayout (layoutOf layout) × (profileVerdict (layoutOf layout) (now s) ≡ Pass) ⌝ }
+    requires { ⌜ RightProfile (layoutOf layout) (now s) ⌝ }
     requires { ⌜ (from ≤ to) × (to ≤ hopCount (now s)) ⌝ }
     ensures { λ r. ⌜ LowerBound (layoutOf layout) (now (s .entry)) from to key r ⌝ }
 {
@@ -44,7 +43,7 @@ fn lower_bound(s: &[u8], layout: Layout, from: usize, to: usize, key: u64) -> us
 
 // Those of the records `within` whose keys lie from `key` up to `key + width`. Where no key is `key` or more there is no second search, so the sum of the two fits.
 pub fn key_range(s: &[u8], layout: Layout, within: HopRange, key: u64, width: u64) -> HopRange
-    requires { ⌜ SoundLayout (layoutOf layout) × (profileVerdict (layoutOf layout) (now s) ≡ Pass) ⌝ }
+    requires { ⌜ RightProfile (layoutOf layout) (now s) ⌝ }
     requires { ⌜ (within .first ≤ within .last) × (within .last ≤ hopCount (now s)) × (width ≤ 4294967296) ⌝ }
     ensures { λ r. ⌜ KeyRange (layoutOf layout) (now (s .entry)) (within .first) (within .last) key width (r .first) (r .last) ⌝ }
 {

@@ -15,14 +15,14 @@ ghost use Rattle.model.specs.Profile.{headerWrong, countsWrong, lengthWrong, he
 ghost use Rattle.profile_records.specs.Layout.{layoutOf, SoundLayout};
 
 // Mark, version or zero bytes wrong.
-fn header_wrong(s: &[u8]) -> bool
+fn header_wrong(s: &[u8], layout: Layout) -> bool
     requires { ⌜ 12 ≤ length (now s) ⌝ }
-    ensures { λ r. ⌜ r ≡ headerWrong (now (s .entry)) ⌝ }
+    ensures { λ r. ⌜ r ≡ headerWrong (layoutOf layout) (now (s .entry)) ⌝ }
 {
     let mark = u32_at(s, 0) / 256;
     let version = u16_at(s, 3);
     let zero = u16_at(s, 10);
-    (mark != 0x445350) | (version != 1) | (zero != 0)
+    (mark != 0x445350) | (version != layout.version) | (zero != 0)
 }
 
 // Class or a count out of range.
@@ -54,7 +54,7 @@ pub fn header_verdict(s: &[u8], layout: Layout) -> Verdict
     if s.len() < 12 {
         return refuse(10, 0);
     }
-    let marked = header_wrong(s);
+    let marked = header_wrong(s, layout);
     let counted = counts_wrong(s, layout);
     let sized = length_wrong(s, layout);
     first_wrong(marked, counted, sized, 11, 12, 13, 0)

@@ -17,7 +17,7 @@ ghost use Rattle.model.specs.Profile.{hopCount, hopMalformed, hopMisordered, ho
 ghost use Rattle.profile_records.specs.Layout.{layoutOf, HopWithin, HopsWithin};
 ghost use Rattle.profile_record_checks.specs.Misplaced.{hopMisplaced};
 
-// A domain not below the count, cost over the limit, or bandwidth bits out of range.
+// A domain not below the count, a cost over the limit, or bandwidth bits out of range.
 fn hop_malformed(s: &[u8], layout: Layout, i: usize) -> bool
     requires { ⌜ HopWithin (layoutOf layout) (now s) i ⌝ }
     ensures { λ r. ⌜ r ≡ hopMalformed (layoutOf layout) (now (s .entry)) i ⌝ }
@@ -25,12 +25,15 @@ fn hop_malformed(s: &[u8], layout: Layout, i: usize) -> bool
     let domains = domain_count(s) as u32;
     let at = hop_start(s, layout, i);
     let cost_at = layout.cost_at;
+    let other_at = layout.other_at;
     let pair = u32_at(s, at);
     let cost = u32_at(s, at + cost_at);
+    let other = u32_at(s, at + other_at);
     let bits = u32_at(s, at + 16);
     (domains <= pair / 65536)
         | (domains <= pair % 65536)
         | (layout.most_cost < cost)
+        | (layout.most_cost < other)
         | (0x7F800000 <= bits)
 }
 

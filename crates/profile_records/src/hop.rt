@@ -8,8 +8,8 @@ use wire::u16_at;
 use wire::u32_at;
 ghost use mathlib.Core.Path.{_≡_};
 ghost use Prim.Native.Nat.{_<_};
-ghost use Rattle.model.specs.Profile.{hopStart, bandwidthBits, hopAt};
-ghost use Rattle.profile_records.specs.Layout.{layoutOf, HopWithin};
+ghost use Rattle.model.specs.Profile.{hopCount, hopStart, bandwidthBits, hopAt};
+ghost use Rattle.profile_records.specs.Layout.{layoutOf, HopWithin, RightProfile, RightHop};
 
 // Where hop record i starts.
 pub fn hop_start(s: &[u8], layout: Layout, i: usize) -> usize
@@ -42,4 +42,12 @@ pub fn hop_at(s: &[u8], layout: Layout, i: usize) -> Hop
         cost,
         bandwidth,
     }
+}
+
+// Hop record i of an accepted profile.
+pub fn accepted_hop(s: &[u8], layout: Layout, i: usize) -> Hop
+    requires { ⌜ RightProfile (layoutOf layout) (now s) × (i < hopCount (now s)) ⌝ }
+    ensures { λ r. ⌜ RightHop (layoutOf layout) (now (s .entry)) i r ⌝ }
+{
+    hop_at(s, layout, i)
 }

@@ -3,25 +3,22 @@
 use mathlib.Core.Path.{_≡_, sym, ap, _∙_}
 use mathlib.Core.List.{List}
 use Prim.Native.Nat.{ℕ}
-use Rattle.model.specs.declared.DomainIndex.{DomainIndex}
-use Rattle.model.specs.declared.NodeAddress.{NodeAddress}
-use Rattle.model.specs.declared.Limits.{Limits}
 use Rattle.model.specs.declared.Refusal.{Refusal}
 use Rattle.model.specs.declared.Round.{Round}
 use Rattle.model.specs.declared.Round.the-variants.{First}
 use Rattle.model.specs.declared.Verdict.{Verdict}
 use Rattle.model.specs.declared.Verdict.the-variants.{Pass, Refuse}
-use Rattle.model.specs.Profile.{Layout, version1, domains, hops}
-use Rattle.model.specs.Subobject.{subobjects}
+use Rattle.model.specs.Profile.{Layout, domains, hops, layoutIn}
 use Rattle.model.specs.Exclusion.{inForce}
 use Rattle.model.specs.Sequence.{refused, good}
-use Rattle.model.specs.Request.{Request, provided, sequenceOf, Accepted, searchIn}
+use Rattle.model.specs.Request.{Request, provided, sequenceOf, allExclusions, Accepted, searchIn}
 use Rattle.model.specs.Rounds.{roundBy, roundOf, searchOf}
 use Rattle.laws.specs.Stops.{stopsOf}
+use Rattle.request.specs.declared.Asked.{Asked}
 use Rattle.request.specs.declared.Query.{Query}
 use Rattle.request.specs.declared.CheckedRequest.{CheckedRequest}
 use Rattle.request.specs.Query.{queryStops, searchFor, inRound, roundFor, Ready}
-use Rattle.request.specs.CheckedRequest.{requestOf, RequestIs}
+use Rattle.request.specs.CheckedRequest.{requestFor, RequestIs}
 
 module _ (x : Round) (q : Query) where
   pub ready-in : {L : Layout} {P E : List ℕ} → Ready L P E q → Ready L P E (inRound x q)
@@ -41,9 +38,9 @@ module _ (x : Round) (q : Query) where
         apart = r .apart;
       }
 
-module _ (P : List ℕ) (ingress : DomainIndex) (source destination : NodeAddress) (I E : List ℕ) (limits : Limits) (r : CheckedRequest) (is : RequestIs P ingress source destination I E limits r) where
+module _ (P : List ℕ) (asked : Asked) (I E : List ℕ) (r : CheckedRequest) (is : RequestIs P asked I E r) where
   abbrev req : Request
-  req = requestOf P (ingress .0) (source .0) (destination .0) I E limits
+  req = requestFor P asked I E
 
   pub refused-request : (why : Refusal) → r .verdict ≡ Refuse why → sequenceOf req ≡ refused why
   refused-request why e = sym (is .means) ∙ ap (λ (v : Verdict). provided v (good (queryStops (r .query)))) e
@@ -51,23 +48,23 @@ module _ (P : List ℕ) (ingress : DomainIndex) (source destination : NodeAddres
   pub accepted-request : r .verdict ≡ Pass → Accepted req (queryStops (r .query))
   accepted-request e = sym (is .means) ∙ ap (λ (v : Verdict). provided v (good (queryStops (r .query)))) e
 
-  search-in : (x : Round) → searchIn x req (queryStops (r .query)) ≡ searchFor version1 P E (inRound x (r .query))
+  search-in : (x : Round) → searchIn x req (queryStops (r .query)) ≡ searchFor (layoutIn P) P E (inRound x (r .query))
   unfolding searchIn stopsOf
   search-in x =
       λ k. record {
         domains = domains P;
-        hops = hops version1 P;
+        hops = hops (layoutIn P) P;
         sequence = queryStops (r .query);
-        exclusions = inForce x (subobjects E);
+        exclusions = inForce x (allExclusions E (queryStops (r .query)));
         source = (sym (is .source-kept) k) .0;
         destination = (sym (is .destination-kept) k) .0;
         limits = sym (is .limits-kept) k;
       }
 
-  pub round-request : roundOf req (queryStops (r .query)) ≡ roundFor version1 P E (r .query)
+  pub round-request : roundOf req (queryStops (r .query)) ≡ roundFor (layoutIn P) P E (r .query)
   unfolding roundOf roundFor
-  round-request = ap (roundBy (subobjects E)) (search-in First)
+  round-request = ap (roundBy (allExclusions E (queryStops (r .query)))) (search-in First)
 
-  pub search-request : searchOf req (queryStops (r .query)) ≡ searchFor version1 P E (inRound (roundFor version1 P E (r .query)) (r .query))
+  pub search-request : searchOf req (queryStops (r .query)) ≡ searchFor (layoutIn P) P E (inRound (roundFor (layoutIn P) P E (r .query)) (r .query))
   unfolding searchOf
-  search-request = (λ k. searchIn (round-request k) req (queryStops (r .query))) ∙ search-in (roundFor version1 P E (r .query))
+  search-request = (λ k. searchIn (round-request k) req (queryStops (r .query))) ∙ search-in (roundFor (layoutIn P) P E (r .query))

@@ -1,21 +1,18 @@
 -- The checks of a request in parts, one after the other: what each refusal makes of the whole, and what is left where it passes. By putting each verdict in its place.
-use mathlib.Core.Path.{_≡_, refl, _∙_}
+use mathlib.Core.Path.{_≡_, refl}
 use mathlib.Core.Bool.{true, false, not, _&&_}
 use mathlib.Core.List.{List}
 use Prim.Native.Nat.{ℕ}
 use lib.ListN.{length}
 use lib.Dec.{ltb}
 use Rattle.model.specs.declared.Limits.{Limits}
-use Rattle.model.specs.declared.ListKind.the-variants.{Include, Exclude}
 use Rattle.model.specs.declared.Refusal.{Refusal}
 use Rattle.model.specs.declared.Verdict.{Verdict}
 use Rattle.model.specs.declared.Verdict.the-variants.{Pass, Refuse}
 use Rattle.model.specs.Verdict.{refuseIf, _andThen_}
-use Rattle.model.specs.Subobject.{formVerdict}
 use Rattle.model.specs.Floats.{inRange}
-use Rattle.model.specs.Request.{sizeVerdict, limitsVerdict, requestVerdict}
-use Rattle.laws.proofs.Turns.{passed-first, refused-first}
-use Rattle.request.specs.CheckedRequest.{requestOf, startVerdict, listsVerdict}
+use Rattle.model.specs.Request.{limitsVerdict, sizesVerdict, formsVerdict, requestVerdictWith}
+use Rattle.request.specs.CheckedRequest.{requestOf, startVerdict}
 
 -- ---- the limits
 
@@ -33,37 +30,36 @@ module _ (l : Limits) where
 -- ---- the lists
 
 module _ (I E : List ℕ) where
-  pub include-long : ltb 1024 (length I) ≡ true → listsVerdict I E ≡ refuseIf true 22 0
+  pub include-long : ltb 1024 (length I) ≡ true → sizesVerdict I E ≡ refuseIf true 22 0
   include-long t = rw t refl
 
   module _ (i : ltb 1024 (length I) ≡ false) where
-    pub exclude-long : ltb 1024 (length E) ≡ true → listsVerdict I E ≡ refuseIf true 22 1
+    pub exclude-long : ltb 1024 (length E) ≡ true → sizesVerdict I E ≡ refuseIf true 22 1
     exclude-long t = rw (i, t) refl
 
-    module _ (e : ltb 1024 (length E) ≡ false) where
-      pub include-refused : (r : Refusal) → formVerdict Include I ≡ Refuse r → listsVerdict I E ≡ Refuse r
-      include-refused r f = rw (i, e, f) refl
+    pub both-fit : ltb 1024 (length E) ≡ false → sizesVerdict I E ≡ Pass
+    both-fit t = rw (i, t) refl
 
-      pub exclude-left : formVerdict Include I ≡ Pass → listsVerdict I E ≡ formVerdict Exclude E
-      exclude-left f = rw (i, e, f) refl
+-- ---- the whole, with the checks of a reply beside the request
 
--- ---- the whole
+module _ (metrics ero : Verdict) (P : List ℕ) (i s d : ℕ) (I E : List ℕ) (l : Limits) where
+  abbrev whole : Verdict
+  whole = requestVerdictWith metrics ero (requestOf P i s d I E l)
 
-regrouped : (a s t f g : Verdict) → a andThen s andThen t andThen f andThen g ≡ a andThen (s andThen t andThen f andThen g)
-regrouped Pass s t f g = refl
-regrouped (Refuse r) s t f g = refl
+  pub start-refused : (r : Refusal) → startVerdict P i ≡ Refuse r → whole ≡ Refuse r
+  start-refused r a = rw a refl
 
-module _ (P : List ℕ) (i s d : ℕ) (I E : List ℕ) (l : Limits) where
-  in-parts : requestVerdict (requestOf P i s d I E l) ≡ startVerdict P i andThen limitsVerdict l andThen listsVerdict I E
-  unfolding requestVerdict
-  in-parts = regrouped (startVerdict P i andThen limitsVerdict l) (sizeVerdict I 0) (sizeVerdict E 1) (formVerdict Include I) (formVerdict Exclude E)
+  module _ (a : startVerdict P i ≡ Pass) where
+    pub limits-refused : (r : Refusal) → limitsVerdict l ≡ Refuse r → whole ≡ Refuse r
+    limits-refused r b = rw (a, b) refl
 
-  pub start-refused : (r : Refusal) → startVerdict P i ≡ Refuse r → requestVerdict (requestOf P i s d I E l) ≡ Refuse r
-  start-refused r e = in-parts ∙ refused-first (startVerdict P i andThen limitsVerdict l) (listsVerdict I E) r (refused-first (startVerdict P i) (limitsVerdict l) r e)
+    module _ (b : limitsVerdict l ≡ Pass) where
+      pub metrics-refused : (r : Refusal) → metrics ≡ Refuse r → whole ≡ Refuse r
+      metrics-refused r c = rw (a, b, c) refl
 
-  module _ (e : startVerdict P i ≡ Pass) where
-    pub limits-refused : (r : Refusal) → limitsVerdict l ≡ Refuse r → requestVerdict (requestOf P i s d I E l) ≡ Refuse r
-    limits-refused r f = in-parts ∙ refused-first (startVerdict P i andThen limitsVerdict l) (listsVerdict I E) r (passed-first (startVerdict P i) (limitsVerdict l) e ∙ f)
+      module _ (c : metrics ≡ Pass) where
+        pub sizes-refused : (r : Refusal) → sizesVerdict I E ≡ Refuse r → whole ≡ Refuse r
+        sizes-refused r e = rw (a, b, c, e) refl
 
-    pub lists-left : limitsVerdict l ≡ Pass → requestVerdict (requestOf P i s d I E l) ≡ listsVerdict I E
-    lists-left f = in-parts ∙ passed-first (startVerdict P i andThen limitsVerdict l) (listsVerdict I E) (passed-first (startVerdict P i) (limitsVerdict l) e ∙ f)
+        pub forms-left : sizesVerdict I E ≡ Pass → whole ≡ formsVerdict I E andThen ero
+        forms-left e = rw (a, b, c, e) refl

@@ -10,11 +10,11 @@ use Rattle.model.specs.declared.Round.the-variants.{First}
 use Rattle.model.specs.declared.Verdict.the-variants.{Pass}
 use Rattle.model.specs.Lists.{allDifferent}
 use Rattle.model.specs.Profile.{Layout, domainCount, domains, hops, profileVerdict}
-use Rattle.model.specs.Subobject.{formVerdict, subobjects}
+use Rattle.model.specs.Subobject.{formVerdict}
 use Rattle.model.specs.Sequence.{Stop, domainsOf}
 use Rattle.model.specs.Exclusion.{inForce}
 use Rattle.model.specs.Floats.{inRange}
-use Rattle.model.specs.Request.{Search}
+use Rattle.model.specs.Request.{Search, allExclusions}
 use Rattle.model.specs.Rounds.{roundBy}
 use Rattle.laws.specs.Stops.{domainIn, stopIn, stopsOf}
 use Rattle.request.specs.declared.Query.{Query}
@@ -36,7 +36,7 @@ searchFor L profile exclude q =
       domains = domains profile;
       hops = hops L profile;
       sequence = queryStops q;
-      exclusions = inForce (q .round) (subobjects exclude);
+      exclusions = inForce (q .round) (allExclusions exclude (queryStops q));
       source = q .source .0;
       destination = q .destination .0;
       limits = q .limits;
@@ -58,7 +58,7 @@ inRound x q =
 
 -- the round that applies to a query, whatever round it is in
 unfoldable pub roundFor : Layout → List ℕ → List ℕ → Query → Round
-roundFor L profile exclude q = roundBy (subobjects exclude) (searchFor L profile exclude (inRound First q))
+roundFor L profile exclude q = roundBy (allExclusions exclude (queryStops q)) (searchFor L profile exclude (inRound First q))
 
 -- what the checks of a request leave: a right profile, a right exclude list, limits in range, and 1 to 16 different domains of the profile
 pub record Ready (L : Layout) (profile exclude : List ℕ) (q : Query) : Type 0 where

@@ -10,11 +10,12 @@ use profile_records::header::domain_count;
 use refusal::refuse;
 ghost use mathlib.Core.Path.{_≡_};
 ghost use Prim.Native.Nat.{ℕ};
-ghost use Rattle.model.specs.Request.{requestVerdict};
-ghost use Rattle.request.specs.CheckedRequest.{requestOf, startVerdict, listsVerdict};
+ghost use Rattle.model.specs.declared.Verdict.the-variants.{Pass};
+ghost use Rattle.model.specs.Request.{sizesVerdict, formsVerdict, requestVerdict};
+ghost use Rattle.request.specs.CheckedRequest.{requestOf, startVerdict};
 
 // The profile, and the ingress domain in it.
-fn start_verdict(profile: &[u8], ingress: DomainIndex) -> Verdict
+pub fn start_verdict(profile: &[u8], ingress: DomainIndex) -> Verdict
     ensures { λ r. ⌜ r ≡ startVerdict (now (profile .entry)) (ingress .0) ⌝ }
 {
     let v = verdict_on(profile);
@@ -27,9 +28,9 @@ fn start_verdict(profile: &[u8], ingress: DomainIndex) -> Verdict
     Verdict::Pass
 }
 
-// The sizes of both lists, then their form.
-pub fn lists_verdict(include: &[u8], exclude: &[u8]) -> Verdict
-    ensures { λ r. ⌜ r ≡ listsVerdict (now (include .entry)) (now (exclude .entry)) ⌝ }
+// The sizes of both lists.
+pub fn sizes_verdict(include: &[u8], exclude: &[u8]) -> Verdict
+    ensures { λ r. ⌜ r ≡ sizesVerdict (now (include .entry)) (now (exclude .entry)) ⌝ }
 {
     if 1024 < include.len() {
         return refuse(22, 0);
@@ -37,6 +38,14 @@ pub fn lists_verdict(include: &[u8], exclude: &[u8]) -> Verdict
     if 1024 < exclude.len() {
         return refuse(22, 1);
     }
+    Verdict::Pass
+}
+
+// The form of both lists.
+pub fn forms_verdict(include: &[u8], exclude: &[u8]) -> Verdict
+    requires { ⌜ sizesVerdict (now include) (now exclude) ≡ Pass ⌝ }
+    ensures { λ r. ⌜ r ≡ formsVerdict (now (include .entry)) (now (exclude .entry)) ⌝ }
+{
     let v = form(ListKind::Include, include);
     if let Verdict::Refuse(r) = v {
         return Verdict::Refuse(r);
@@ -62,5 +71,9 @@ pub fn request_verdict(
     if let Verdict::Refuse(r) = second {
         return Verdict::Refuse(r);
     }
-    lists_verdict(include, exclude)
+    let third = sizes_verdict(include, exclude);
+    if let Verdict::Refuse(r) = third {
+        return Verdict::Refuse(r);
+    }
+    forms_verdict(include, exclude)
 }

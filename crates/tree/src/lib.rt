@@ -4,6 +4,7 @@ use model::Limits;
 use model::NodeAddress;
 use model::TreeAnswer;
 use model::TreeEntry;
+use request::Asked;
 use tree_entries::TreeTable;
 use tree_entries::fill;
 use tree_fields::put::put_levels;
@@ -36,14 +37,17 @@ pub fn build(
     let mut addresses = [0u32; 242];
     let mut reaches = [0u32; 242];
     let mut starts = [0usize; 18];
-    let solved = solve(
-        profile,
+    let asked = Asked {
         ingress,
         source,
         destination,
+        limits,
+    };
+    let solved = solve(
+        profile,
+        asked,
         include,
         exclude,
-        limits,
         room,
         &mut addresses,
         &mut reaches,

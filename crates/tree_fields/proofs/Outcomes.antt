@@ -13,7 +13,7 @@ use Rattle.model.specs.declared.Round.the-variants.{First, Second}
 use Rattle.model.specs.declared.TreeEntry.{TreeEntry}
 use Rattle.model.specs.declared.TreeAnswer.the-variants.{Built, Refused}
 use Rattle.model.specs.Verdict.{refuseIf}
-use Rattle.model.specs.Profile.{version1, costLimit}
+use Rattle.model.specs.Profile.{layoutIn, costLimit}
 use Rattle.model.specs.Sequence.{Stop, Reading}
 use Rattle.model.specs.Request.{Request, Search, Accepted, sequenceOf}
 use Rattle.model.specs.Rounds.{roundOf, searchOf, overRounds}
@@ -22,6 +22,7 @@ use Rattle.model.specs.Answers.{done4, refused4}
 use Rattle.model.specs.Calls.{Outcome, nothing, answerTree, treeInto, buildTree}
 use Rattle.model.specs.Tree.{tree, tally}
 use Rattle.laws.proofs.Accepted.{accepted}
+use Rattle.laws.proofs.Layouts.{cost-limited, few-hops}
 use Rattle.laws.proofs.AcceptedPaths.{accepted-costs}
 use Rattle.request.specs.declared.Query.{Query}
 use Rattle.request.specs.Query.{searchFor, roundFor, Ready}
@@ -62,38 +63,38 @@ refused-outcome r room addresses codes starts =
 -- ---- a query whose round is settled and whose tree is worked out in it
 
 module _
-    (s exclude : List ℕ) (q : Query) (room : ℕ) (ready : Ready version1 s exclude q)
-    (addresses codes starts firsts lasts : List ℕ) (r : ChosenRound) (is : ChosenRoundIs version1 s exclude q addresses codes starts firsts lasts r)
+    (s exclude : List ℕ) (q : Query) (room : ℕ) (ready : Ready (layoutIn s) s exclude q)
+    (addresses codes starts firsts lasts : List ℕ) (r : ChosenRound) (is : ChosenRoundIs (layoutIn s) s exclude q addresses codes starts firsts lasts r)
   where
     abbrev p : Query
     p = r .query
 
     abbrev S : Search
-    S = searchFor version1 s exclude p
+    S = searchFor (layoutIn s) s exclude p
 
-    ready-settled : Ready version1 s exclude p
-    ready-settled = subst (Ready version1 s exclude) (sym (is .query-is)) (ready-in (roundFor version1 s exclude q) q ready)
+    ready-settled : Ready (layoutIn s) s exclude p
+    ready-settled = subst (Ready (layoutIn s) s exclude) (sym (is .query-is)) (ready-in (roundFor (layoutIn s) s exclude q) q ready)
 
     few : length (S .sequence) ≤ 16
     few = omega (arith, stops-long p, ready-settled .most)
 
     cheap : (h : Hop) → List·Memᴰ h (S .hops) → h .cost ≤ costLimit
-    cheap h m = accepted-costs version1 s (ready .profile-right) h m
+    cheap h m = omega (arith, accepted-costs (layoutIn s) s (ready .profile-right) h m, cost-limited s)
 
     -- the start of the place behind the last domain is the number of entries
     counted : getD starts (p .count) 0 ≡ startOf S (length (S .sequence))
-    counted = ap (λ (k : ℕ). getD starts k 0) (sym (stops-long p)) ∙ starts-at S few cheap version1 s addresses codes starts firsts lasts (is .examined) (is .worked) (length (S .sequence)) (omega arith)
+    counted = ap (λ (k : ℕ). getD starts k 0) (sym (stops-long p)) ∙ starts-at S few cheap (layoutIn s) s addresses codes starts firsts lasts (is .examined) (is .worked) (length (S .sequence)) (omega arith)
 
     pub places-few : p .count ≤ 16
     places-few = ready-settled .most
 
     pub count-small : getD starts (p .count) 0 ≤ 241
-    count-small = omega (arith, counted, most S few cheap version1 s addresses codes starts firsts lasts (is .examined) (is .worked))
+    count-small = omega (arith, counted, most S few cheap (layoutIn s) s addresses codes starts firsts lasts (is .examined) (is .worked))
 
     pub tally-small : r .tally ≤ 6000
     tally-small =
-        let few-hops = accepted version1 s (ready .profile-right) .mostHops in
-        omega (arith, is .most, twice (roundFor version1 s exclude q) (is .examined), is .tally-is)
+        let hops = accepted (layoutIn s) s (ready .profile-right) .mostHops in
+        omega (arith, few-hops s, is .most, twice (roundFor (layoutIn s) s exclude q) (is .examined), is .tally-is)
       where
         twice : (x : Round) (n : ℕ) → overRounds x n ≤ n + n
         twice First n = omega arith
@@ -101,7 +102,7 @@ module _
 
     -- what is said of the settled query is said of the given one
     given-query : (x : TreeResult) → TreeResultIs (treeOutcome (p .round) S room) room addresses codes starts x → TreeResultIs (treeFor s exclude q room) room addresses codes starts x
-    given-query x = subst (λ (y : Query). TreeResultIs (treeOutcome (y .round) (searchFor version1 s exclude y) room) room addresses codes starts x) (is .query-is)
+    given-query x = subst (λ (y : Query). TreeResultIs (treeOutcome (y .round) (searchFor (layoutIn s) s exclude y) room) room addresses codes starts x) (is .query-is)
 
     pub too-small : room < getD starts (p .count) 0 → TreeResultIs (treeFor s exclude q room) room addresses codes starts (refusal (record { number = 34; place = 0 }))
     too-small h =
@@ -131,7 +132,7 @@ module _
           held =
               subst (λ (n : ℕ). Held (tree S) (p .count) n addresses codes starts) (sym counted)
               (subst (λ (k : ℕ). Held (tree S) k (startOf S (length (S .sequence))) addresses codes starts) (stops-long p)
-              (held S few cheap version1 s addresses codes starts firsts lasts (is .examined) (is .worked)));
+              (held S few cheap (layoutIn s) s addresses codes starts firsts lasts (is .examined) (is .worked)));
         }))
 
 -- ---- a request

@@ -9,7 +9,7 @@ use Rattle.model.specs.declared.TreeEntry.{TreeEntry}
 use Rattle.model.specs.Lists.{over}
 use Rattle.model.specs.Answers.{numbersOfTree}
 use Rattle.model.specs.Calls.{Outcome, roomVerdict, answerTree}
-use Rattle.model.specs.Profile.{version1}
+use Rattle.model.specs.Profile.{layoutIn}
 use Rattle.model.specs.Request.{Search}
 use Rattle.model.specs.Tree.{tree}
 use Rattle.request.specs.declared.Query.{Query}
@@ -23,7 +23,7 @@ treeOutcome x S room = answerTree (roomVerdict (length (tree S)) room) x S
 
 abbrev pub treeFor : List ℕ → List ℕ → Query → ℕ → Outcome TreeEntry
 treeFor profile exclude q room =
-    treeOutcome (roundFor version1 profile exclude q) (searchFor version1 profile exclude (inRound (roundFor version1 profile exclude q) q)) room
+    treeOutcome (roundFor (layoutIn profile) profile exclude q) (searchFor (layoutIn profile) profile exclude (inRound (roundFor (layoutIn profile) profile exclude q) q)) room
 
 -- what the lists in numbers hold of the entries written, n of them at the start of each list
 pub record Held (written : List TreeEntry) (places n : ℕ) (addresses codes starts : List ℕ) : Type 0 where

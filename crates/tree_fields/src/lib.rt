@@ -4,21 +4,19 @@ use crate::put::put_costs;
 use crate::put::put_levels;
 use crate::put::put_marks;
 use buffers::lesser;
-use model::DomainIndex;
-use model::Limits;
-use model::NodeAddress;
 use model::Refusal;
 use model::TreeAnswer;
 use model::Verdict;
-use profile_records::layout::first_version;
+use profile_records::layout::layout_in;
+use request::Asked;
 use request::Query;
 use request::check_request;
 use tree_rounds::settle;
 ghost use mathlib.Core.Path.{_≡_};
 ghost use lib.ListN.{length};
-ghost use Rattle.model.specs.Profile.{version1};
+ghost use Rattle.model.specs.Profile.{layoutIn};
 ghost use Rattle.model.specs.Calls.{buildTree};
-ghost use Rattle.request.specs.CheckedRequest.{requestOf};
+ghost use Rattle.request.specs.CheckedRequest.{requestFor};
 ghost use Rattle.request.specs.Query.{Ready};
 ghost use Rattle.buffers.specs.Capacity.{least4};
 ghost use Rattle.tree_fields.specs.TreeResult.{treeFor, TreeResultIs, TreeIn};
@@ -52,13 +50,13 @@ fn solve_query(
     reaches: &mut [u32; 242],
     starts: &mut [usize; 18],
 ) -> TreeResult
-    requires { ⌜ Ready version1 (now profile) (now exclude) q ⌝ }
+    requires { ⌜ Ready (layoutIn (now profile)) (now profile) (now exclude) q ⌝ }
     requires { ⌜ (length (now addresses) ≡ 242) × (length (now reaches) ≡ 242) × (length (now starts) ≡ 18) ⌝ }
     ensures { λ r. ⌜ TreeResultIs (treeFor (now (profile .entry)) (now (exclude .entry)) q room) room (now (addresses .exit)) (now (reaches .exit)) (now (starts .exit)) r ⌝ }
 {
     let mut firsts = [0usize; 16];
     let mut lasts = [0usize; 16];
-    let layout = first_version();
+    let layout = layout_in(profile);
     let settled = settle(
         profile,
         layout,
@@ -94,29 +92,18 @@ fn solve_query(
 // The tree of a request in numbers: every check before 34, the tree, and 34.
 pub fn solve(
     profile: &[u8],
-    ingress: DomainIndex,
-    source: NodeAddress,
-    destination: NodeAddress,
+    asked: Asked,
     include: &[u8],
     exclude: &[u8],
-    limits: Limits,
     room: usize,
     addresses: &mut [u32; 242],
     reaches: &mut [u32; 242],
     starts: &mut [usize; 18],
 ) -> TreeResult
     requires { ⌜ (length (now addresses) ≡ 242) × (length (now reaches) ≡ 242) × (length (now starts) ≡ 18) ⌝ }
-    ensures { λ r. ⌜ TreeResultIs (buildTree (requestOf (now (profile .entry)) (ingress .0) (source .0) (destination .0) (now (include .entry)) (now (exclude .entry)) limits) room) room (now (addresses .exit)) (now (reaches .exit)) (now (starts .exit)) r ⌝ }
+    ensures { λ r. ⌜ TreeResultIs (buildTree (requestFor (now (profile .entry)) asked (now (include .entry)) (now (exclude .entry))) room) room (now (addresses .exit)) (now (reaches .exit)) (now (starts .exit)) r ⌝ }
 {
-    let checked = check_request(
-        profile,
-        ingress,
-        source,
-        destination,
-        include,
-        exclude,
-        limits,
-    );
+    let checked = check_request(profile, asked, include, exclude);
     let verdict = checked.verdict;
     if let Verdict::Refuse(r) = verdict {
         return refused(r);
@@ -128,18 +115,15 @@ pub fn solve(
 // The tree's fields in four lent buffers. On a refusal they keep what they held.
 pub fn tree_numbers(
     profile: &[u8],
-    ingress: DomainIndex,
-    source: NodeAddress,
-    destination: NodeAddress,
+    asked: Asked,
     include: &[u8],
     exclude: &[u8],
-    limits: Limits,
     level: &mut [u32],
     address: &mut [u32],
     reachable: &mut [u8],
     cost: &mut [u32],
 ) -> TreeAnswer
-    ensures { λ r. ⌜ TreeIn (buildTree (requestOf (now (profile .entry)) (ingress .0) (source .0) (destination .0) (now (include .entry)) (now (exclude .entry)) limits) (least4 (now (level .entry)) (now (address .entry)) (now (reachable .entry)) (now (cost .entry)))) (now (level .entry)) (now (address .entry)) (now (reachable .entry)) (now (cost .entry)) r (now (level .exit)) (now (address .exit)) (now (reachable .exit)) (now (cost .exit)) ⌝ }
+    ensures { λ r. ⌜ TreeIn (buildTree (requestFor (now (profile .entry)) asked (now (include .entry)) (now (exclude .entry))) (least4 (now (level .entry)) (now (address .entry)) (now (reachable .entry)) (now (cost .entry)))) (now (level .entry)) (now (address .entry)) (now (reachable .entry)) (now (cost .entry)) r (now (level .exit)) (now (address .exit)) (now (reachable .exit)) (now (cost .exit)) ⌝ }
 {
     let mut addresses = [0u32; 242];
     let mut reaches = [0u32; 242];
@@ -150,12 +134,9 @@ pub fn tree_numbers(
     );
     let solved = solve(
         profile,
-        ingress,
-        source,
-        destination,
+        asked,
         include,
         exclude,
-        limits,
         room,
         &mut addresses,
         &mut reaches,

@@ -8,9 +8,8 @@ use wire::u32_at;
 ghost use mathlib.Core.Path.{_≡_};
 ghost use Prim.Native.Nat.{_+_, _≤_, _<_};
 ghost use lib.ListN.{length};
-ghost use Rattle.model.specs.declared.Verdict.the-variants.{Pass};
-ghost use Rattle.model.specs.Profile.{hopCount, profileVerdict};
-ghost use Rattle.profile_records.specs.Layout.{layoutOf, SoundLayout};
+ghost use Rattle.model.specs.Profile.{hopCount};
+ghost use Rattle.profile_records.specs.Layout.{layoutOf, RightProfile};
 ghost use Rattle.tree_levels.specs.Entries.{placed, headsOf};
 
 // The cell behind `at`, or the first one.
@@ -34,7 +33,7 @@ pub fn collect(
     addresses: &mut [u32; 242],
     from: usize,
 ) -> usize
-    requires { ⌜ SoundLayout (layoutOf layout) × (profileVerdict (layoutOf layout) (now s) ≡ Pass) ⌝ }
+    requires { ⌜ RightProfile (layoutOf layout) (now s) ⌝ }
     requires { ⌜ (first ≤ last) × (last ≤ hopCount (now s)) × (length (headsOf (layoutOf layout) (now s) first last) ≤ 16) ⌝ }
     requires { ⌜ (from + 16 ≤ 242) × (length (now addresses) ≡ 242) ⌝ }
     ensures { λ r. ⌜ r ≡ from + length (headsOf (layoutOf layout) (now (s .entry)) first last) ⌝ }

@@ -7,10 +7,8 @@ use profile_hop_range::pair_range;
 use profile_records::layout::Layout;
 ghost use mathlib.Core.Path.{_≡_};
 ghost use Prim.Native.Nat.{_+_, _-_, _≤_, _<_};
-ghost use Rattle.model.specs.declared.Verdict.the-variants.{Pass};
-ghost use Rattle.model.specs.Profile.{profileVerdict};
 ghost use Rattle.model.specs.Request.{Search};
-ghost use Rattle.profile_records.specs.Layout.{layoutOf, SoundLayout};
+ghost use Rattle.profile_records.specs.Layout.{layoutOf, RightProfile};
 ghost use Rattle.tree_levels.specs.Levels.{Several, Covers, Room, Noted, LaidOut};
 
 pub mod entries;
@@ -26,7 +24,7 @@ fn note_leg(
     firsts: &mut [usize; 16],
     lasts: &mut [usize; 16],
 ) -> HopRange
-    requires { ⌜ SoundLayout (layoutOf layout) × (profileVerdict (layoutOf layout) (now s) ≡ Pass) ⌝ }
+    requires { ⌜ RightProfile (layoutOf layout) (now s) ⌝ }
     requires { ⌜ i < 16 ⌝ }
     ensures { λ r. ⌜ Noted (layoutOf layout) (now (s .entry)) (now (firsts .entry)) (now (lasts .entry)) (from .0) (to .0) i (now (firsts .exit)) (now (lasts .exit)) (r .first) (r .last) ⌝ }
 {
@@ -57,7 +55,7 @@ pub fn lay_out(
     firsts: &mut [usize; 16],
     lasts: &mut [usize; 16],
 ) -> usize
-    requires { ⌜ SoundLayout (layoutOf layout) × (profileVerdict (layoutOf layout) (now s) ≡ Pass) ⌝ }
+    requires { ⌜ RightProfile (layoutOf layout) (now s) ⌝ }
     requires { ⌜ Several domains count × Room (now addresses) (now starts) (now firsts) (now lasts) ⌝ }
     ensures { λ r. ⌜ ((S : Search) → Covers S (layoutOf layout) (now (s .entry)) domains count (source .0) (destination .0) → LaidOut S (layoutOf layout) (now (s .entry)) (now (addresses .exit)) (now (starts .exit)) (now (firsts .exit)) (now (lasts .exit)) r) ⌝ }
 {

@@ -2,7 +2,7 @@
 // A reach is one number: the least cost, or `UNREACHABLE`.
 use model::Hop;
 use model::NodeAddress;
-use profile_records::hop::hop_at;
+use profile_records::hop::accepted_hop;
 use profile_records::layout::Layout;
 use tree_lookup::Place;
 use tree_lookup::find_entry;
@@ -11,11 +11,10 @@ ghost use mathlib.Core.Bool.{true};
 ghost use Prim.Native.Nat.{_-_, _≤_, _<_};
 ghost use lib.ListN.{length};
 ghost use lib.Seq.{slice};
-ghost use Rattle.model.specs.declared.Verdict.the-variants.{Pass};
 ghost use Rattle.model.specs.Floats.{inRange};
-ghost use Rattle.model.specs.Profile.{profileVerdict, hops, hopCount, costLimit};
+ghost use Rattle.model.specs.Profile.{hops, hopCount, costLimit};
 ghost use Rattle.laws.specs.Reach.{unreached, better, via, bestFrom};
-ghost use Rattle.profile_records.specs.Layout.{layoutOf, SoundLayout};
+ghost use Rattle.profile_records.specs.Layout.{layoutOf, RightProfile};
 ghost use Rattle.tree_lookup.specs.LookUp.{Part};
 ghost use Rattle.tree_reaches.specs.Reaches.{reachOf, Small, beside, wayOn, NextPlace};
 
@@ -89,7 +88,7 @@ pub fn best_from(
     from: usize,
     to: usize,
 ) -> u32
-    requires { ⌜ SoundLayout (layoutOf layout) × (layoutOf layout .mostCost ≤ costLimit) × (profileVerdict (layoutOf layout) (now s) ≡ Pass) ⌝ }
+    requires { ⌜ RightProfile (layoutOf layout) (now s) ⌝ }
     requires { ⌜ (first ≤ last) × (last ≤ hopCount (now s)) × (inRange asked ≡ true) ⌝ }
     requires { ⌜ NextPlace (now addresses) (now reaches) from to ⌝ }
     ensures { λ r. ⌜ reachOf r ≡ bestFrom unreached (wayOn asked (slice from to (now (addresses .entry))) (slice from to (now (reaches .entry)))) (slice first last (hops (layoutOf layout) (now (s .entry)))) ⌝ }
@@ -97,7 +96,7 @@ pub fn best_from(
     let mut best = UNREACHABLE;
     let mut i = first;
     while i < last {
-        let h = hop_at(s, layout, i);
+        let h = accepted_hop(s, layout, i);
         best = taken(best, h, asked, addresses, reaches, from, to);
         i += 1;
     }

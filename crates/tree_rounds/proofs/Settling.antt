@@ -11,7 +11,7 @@ use Rattle.model.specs.declared.Round.the-variants.{First}
 use Rattle.model.specs.Profile.{Layout, hopCount, hopAt, hops, costLimit}
 use Rattle.model.specs.Subobject.{subobjects}
 use Rattle.model.specs.Exclusion.{someDesired}
-use Rattle.model.specs.Request.{Search}
+use Rattle.model.specs.Request.{Search, allExclusions}
 use Rattle.model.specs.Path.{admissible}
 use Rattle.model.specs.Rounds.{roundIf, overRounds}
 use Rattle.model.specs.Lists.{isEmpty}
@@ -82,5 +82,5 @@ module _
 
       -- whether a second round is needed says which applies
       pub round-is : (b : Bool) → b ≡ someDesired (subobjects exclude) && not (keptBy (q .limits) here) → roundFor L s exclude q ≡ roundIf b
-      unfolding roundFor
+      unfolding roundFor allExclusions
       round-is b e = ap (λ (c : Bool). roundIf (someDesired (subobjects exclude) && c)) none-in-first ∙ ap roundIf (sym e)

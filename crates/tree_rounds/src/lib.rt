@@ -12,11 +12,9 @@ use tree_reaches::UNREACHABLE;
 use tree_vspt::fill_tree;
 ghost use mathlib.Core.Path.{_≡_};
 ghost use mathlib.Core.Bool.{true, not, _&&_};
-ghost use Prim.Native.Nat.{_≤_};
 ghost use lib.ListN.{length};
 ghost use Rattle.model.specs.declared.ListKind.the-variants.{Exclude};
 ghost use Rattle.model.specs.declared.Verdict.the-variants.{Pass};
-ghost use Rattle.model.specs.Profile.{costLimit};
 ghost use Rattle.model.specs.Exclusion.{someDesired};
 ghost use Rattle.model.specs.Floats.{inRange};
 ghost use Rattle.model.specs.Subobject.{formVerdict, subobjects};
@@ -67,7 +65,7 @@ pub fn settle(
     firsts: &mut [usize; 16],
     lasts: &mut [usize; 16],
 ) -> ChosenRound
-    requires { ⌜ SoundLayout (layoutOf layout) × (layoutOf layout .mostCost ≤ costLimit) × Ready (layoutOf layout) (now s) (now exclude) q ⌝ }
+    requires { ⌜ SoundLayout (layoutOf layout) × Ready (layoutOf layout) (now s) (now exclude) q ⌝ }
     requires { ⌜ Room (now addresses) (now starts) (now firsts) (now lasts) × (length (now reaches) ≡ 242) ⌝ }
     ensures { λ r. ⌜ ChosenRoundIs (layoutOf layout) (now (s .entry)) (now (exclude .entry)) q (now (addresses .exit)) (now (reaches .exit)) (now (starts .exit)) (now (firsts .exit)) (now (lasts .exit)) r ⌝ }
 {

@@ -16,10 +16,9 @@ ghost use Rattle.model.specs.declared.ListKind.the-variants.{Exclude};
 ghost use Rattle.model.specs.declared.Verdict.the-variants.{Pass};
 ghost use Rattle.model.specs.Floats.{inRange};
 ghost use Rattle.model.specs.Path.{keepsPin};
-ghost use Rattle.model.specs.Profile.{profileVerdict, costLimit};
 ghost use Rattle.model.specs.Subobject.{formVerdict};
 ghost use Rattle.model.specs.WrittenList.{pinIf};
-ghost use Rattle.profile_records.specs.Layout.{layoutOf, SoundLayout};
+ghost use Rattle.profile_records.specs.Layout.{layoutOf, RightProfile};
 ghost use Rattle.profile_hop_range.specs.Ranges.{PairRange};
 ghost use Rattle.tree_reaches.specs.Reaches.{reachOf, NextPlace};
 ghost use Rattle.tree_step.specs.Step.{allowedBy, entryReach, levelCodes};
@@ -76,7 +75,7 @@ fn entry_reach(
     addresses: &[u32],
     reaches: &[u32],
 ) -> u32
-    requires { ⌜ SoundLayout (layoutOf layout) × (layoutOf layout .mostCost ≤ costLimit) × (profileVerdict (layoutOf layout) (now s) ≡ Pass) ⌝ }
+    requires { ⌜ RightProfile (layoutOf layout) (now s) ⌝ }
     requires { ⌜ (formVerdict Exclude (now exclude) ≡ Pass) × (inRange asked ≡ true) ⌝ }
     requires { ⌜ PairRange (layoutOf layout) (now s) (leg .from .0) (leg .to .0) (leg .hops .first) (leg .hops .last) ⌝ }
     requires { ⌜ NextPlace (now addresses) (now reaches) (leg .next) (leg .end) ⌝ }
@@ -112,7 +111,7 @@ pub fn fill_level(
     addresses: &[u32],
     reaches: &mut [u32],
 )
-    requires { ⌜ SoundLayout (layoutOf layout) × (layoutOf layout .mostCost ≤ costLimit) × (profileVerdict (layoutOf layout) (now s) ≡ Pass) ⌝ }
+    requires { ⌜ RightProfile (layoutOf layout) (now s) ⌝ }
     requires { ⌜ (formVerdict Exclude (now exclude) ≡ Pass) × (inRange asked ≡ true) ⌝ }
     requires { ⌜ PairRange (layoutOf layout) (now s) (leg .from .0) (leg .to .0) (leg .hops .first) (leg .hops .last) ⌝ }
     requires { ⌜ (leg .start ≤ leg .next) × NextPlace (now addresses) (now reaches) (leg .next) (leg .end) ⌝ }

@@ -1,20 +1,20 @@
--- Numbers written one place before the other, from the last place to the first: one place more before those written, what a written place reads as, and the
--- last place of all. By the laws of lists written over lists.
+-- Numbers written one place before the other, from the last place to the first: one place more before those written or before those that stand, what a written
+-- place reads as, and the last place of all. By the laws of lists written over lists.
 use mathlib.Core.Path.{_≡_, refl, sym, ap, ap₂, _∙_}
 use mathlib.Core.Bool.{Bool}
-use mathlib.Core.List.{List, [], _∷_, _++_, map, append-assoc}
+use mathlib.Core.List.{List, [], _∷_, _++_, map, append-assoc, append-nil}
 use Prim.Native.Nat.{ℕ, zero, suc, _+_, _-_, _≤_, _<_}
-use native.Mathlib.Nat.{add-zero, zero-add}
+use native.Mathlib.Nat.{add-zero, zero-add, sub-zero}
 use native.Mathlib.Omega.{arith}
 use lib.ListN.{length, take, drop, set, length-append, length-map}
-use lib.Seq.{slice, paste, paste-zero, paste-suc, length-paste, length-take-le, take-length, take-at, drop-at, take-take, take-append-le}
+use lib.Seq.{slice, slice-empty, paste, paste-zero, paste-suc, length-paste, length-take-le, take-length, take-at, drop-at, take-take, take-append-le, take-append-add}
 use borrow.Author.Tests.{le-ltb}
 use Rattle.model.specs.Lists.{countFrom, each}
 use Rattle.model.specs.Request.{Search}
 use Rattle.tree_levels.specs.Levels.{nodesIf, nodesAt, nodesUpTo, startOf}
-use Rattle.tree_levels.proofs.Blocks.{each-add}
+use Rattle.tree_levels.proofs.Blocks.{each-add, each-next}
 use Rattle.tree_reaches.specs.Reaches.{codeAt}
-use Rattle.tree_vspt.specs.Tree.{codesFrom, filledFrom}
+use Rattle.tree_vspt.specs.Tree.{codesFrom, filledFrom, Holds, HoldsFrom, filledAt, TreeCodes}
 use Rattle.tree_step.proofs.Entries.{slice-by-drop}
 
 module _ {A : Type 0} where
@@ -51,6 +51,18 @@ module _ {A : Type 0} where
       ∙ ap (λ (l : List A). take (e - b) (drop b l)) (pasted d b (xs ++ ys) ∙ append-assoc (take b d) (xs ++ ys) rest)
       ∙ ap (take (e - b)) (drop-at (take b d) ((xs ++ ys) ++ rest) b (length-take-le b d k) ∙ append-assoc xs ys rest)
       ∙ take-at xs (ys ++ rest) (e - b) (sym n)
+
+  -- what was written, and behind it what stood there
+  pub slice-onward
+      : (d xs : List A) (b m e : ℕ) → b + length xs ≡ m → m ≤ e → b ≤ length d → slice b e (paste d b xs (length xs)) ≡ xs ++ slice m e d
+  slice-onward d xs b m e h k l =
+      let n : e - b ≡ length xs + (e - m) = omega arith in
+      slice-by-drop b e (paste d b xs (length xs)) (omega arith)
+      ∙ ap (λ (r : List A). take (e - b) (drop b r)) (pasted d b xs ∙ append-assoc (take b d) xs (drop (b + length xs) d))
+      ∙ ap (take (e - b)) (drop-at (take b d) (xs ++ drop (b + length xs) d) b (length-take-le b d l))
+      ∙ ap₂ (λ (i j : ℕ). take i (xs ++ drop j d)) n h
+      ∙ take-append-add xs (drop m d) (e - m)
+      ∙ ap (λ (r : List A). xs ++ r) (sym (slice-by-drop m e d k))
 
   -- one element
   pub paste-one : (d : List A) (at : ℕ) (x : A) → at < length d → set d at x ≡ paste d at (x ∷ []) 1
@@ -118,9 +130,60 @@ module _ (S : Search) where
   pub filled-long : (i n : ℕ) (d : List ℕ) → startOf S (i + n) ≤ length d → length (filledFrom S i n d) ≡ length d
   filled-long i n d h = length-paste d (startOf S i) (codesFrom S i n) (length (codesFrom S i n)) (omega (arith, codes-long i n)) (omega arith)
 
-  -- all places written
-  pub filled-whole : (n : ℕ) (d exit : List ℕ) → exit ≡ filledFrom S 0 n d → take (startOf S n) exit ≡ codesFrom S 0 n
+  -- a place starts no later than those behind it
+  pub starts-later : (i j : ℕ) → i ≤ j → startOf S i ≤ startOf S j
+  starts-later i j h =
+      let e : i + (j - i) ≡ j = omega arith in
+      omega (arith, codes-long i (j - i), ap (startOf S) e)
+
+  pub filled-none : (i : ℕ) (d : List ℕ) → d ≡ filledFrom S i 0 d
+  unfolding codesFrom each countFrom
+  filled-none i d = paste-zero d (startOf S i) []
+
+  -- ---- what stands from a place on
+
+  -- all that was written from it on
+  pub filled-holds : (i n : ℕ) (d : List ℕ) → i + n ≡ suc (length (S .sequence)) → startOf S i ≤ length d → HoldsFrom S i (filledFrom S i n d)
+  filled-holds i n d e h =
+      let end : startOf S i + length (codesFrom S i n) ≡ startOf S (suc (length (S .sequence))) = codes-long i n ∙ ap (startOf S) e in
+      let count : n ≡ suc (length (S .sequence)) - i = omega arith in
+      slice-onward d (codesFrom S i n) (startOf S i) (startOf S (suc (length (S .sequence)))) (startOf S (suc (length (S .sequence)))) end (omega arith) h
+      ∙ ap (λ (r : List ℕ). codesFrom S i n ++ r) (slice-empty (startOf S (suc (length (S .sequence)))) d)
+      ∙ append-nil (codesFrom S i n)
+      ∙ ap (codesFrom S i) count
+
+  -- the place itself
+  pub holds-first : (i : ℕ) (d : List ℕ) → i ≤ length (S .sequence) → HoldsFrom S i d → Holds S i d
+  holds-first i d h holds =
+      let end = suc (length (S .sequence)) in
+      let here = level-long i in
+      let order = starts-later (suc i) end (omega arith) in
+      let count : end - i ≡ suc (end - suc i) = omega arith in
+      slice-by-drop (startOf S i) (startOf S (suc i)) d (omega arith)
+      ∙ sym (take-take (startOf S (suc i) - startOf S i) (startOf S end - startOf S i) (drop (startOf S i) d) (omega arith))
+      ∙ ap (take (startOf S (suc i) - startOf S i))
+      (sym (slice-by-drop (startOf S i) (startOf S end) d (omega arith)) ∙ holds ∙ ap (codesFrom S i) count ∙ codes-cons i (end - suc i))
+      ∙ take-at (map (codeAt S i) (nodesAt S i)) (codesFrom S (suc i) (end - suc i)) (startOf S (suc i) - startOf S i) (omega arith)
+
+  -- one place more before them
+  pub holds-more : (i : ℕ) (d : List ℕ) → i ≤ length (S .sequence) → startOf S i ≤ length d → HoldsFrom S (suc i) d → HoldsFrom S i (filledAt S i d)
+  holds-more i d h k holds =
+      let end = suc (length (S .sequence)) in
+      let count : end - i ≡ suc (end - suc i) = omega arith in
+      slice-onward d (map (codeAt S i) (nodesAt S i)) (startOf S i) (startOf S (suc i)) (startOf S end) (level-long i) (starts-later (suc i) end (omega arith)) k
+      ∙ ap (λ (r : List ℕ). map (codeAt S i) (nodesAt S i) ++ r) holds
+      ∙ sym (ap (codesFrom S i) count ∙ codes-cons i (end - suc i))
+
+  -- from the first place on they are the whole tree
+  pub holds-whole : (d : List ℕ) → HoldsFrom S 0 d → TreeCodes S d
   unfolding nodesUpTo each countFrom
-  filled-whole n d exit e =
-      let long : length (codesFrom S 0 n) ≡ startOf S n = omega (arith, codes-long 0 n, ap (startOf S) (zero-add n)) in
-      ap (take (startOf S n)) (e ∙ pasted d 0 (codesFrom S 0 n)) ∙ take-at (codesFrom S 0 n) (drop (0 + length (codesFrom S 0 n)) d) (startOf S n) long
+  holds-whole d holds = holds ∙ ap (codesFrom S 0) (sub-zero (suc (length (S .sequence))))
+
+  -- the places before one that was written
+  pub filled-before
+      : (n : ℕ) (d : List ℕ) → startOf S n ≤ length d → filledFrom S 0 n (filledAt S n d) ≡ filledFrom S 0 (suc n) d
+  unfolding nodesUpTo codesFrom each countFrom
+  filled-before n d h =
+      let long : 0 + length (codesFrom S 0 n) ≡ startOf S n = codes-long 0 n ∙ ap (startOf S) (zero-add n) in
+      paste-before d (codesFrom S 0 n) (map (codeAt S n) (nodesAt S n)) 0 (startOf S n) long h
+      ∙ sym (ap (λ (l : List ℕ). paste d 0 l (length l)) (each-next (λ (j : ℕ). map (codeAt S j) (nodesAt S j)) n))

@@ -1,6 +1,6 @@
 -- The recursion over the sequence, one call at a time, over plain lists: the last place is the destination's, and one step before what is written writes one place
 -- more. From the laws of one step and of numbers written one before the other.
-use mathlib.Core.Path.{_≡_, refl, sym, ap, ap₂, subst₂, _∙_}
+use mathlib.Core.Path.{_≡_, refl, sym, ap, ap₂, subst, subst₂, _∙_}
 use mathlib.Core.Bool.{not}
 use mathlib.Core.List.{List, map, List·Memᴰ}
 use Prim.Native.Nat.{ℕ, suc, _+_, _-_, _≤_, _<_}
@@ -11,7 +11,8 @@ use Rattle.model.specs.declared.Hop.{Hop}
 use Rattle.model.specs.Profile.{Layout, hops, costLimit}
 use Rattle.model.specs.Subobject.{subobjects}
 use Rattle.model.specs.Exclusion.{inForce, excludedNode}
-use Rattle.model.specs.Request.{Search}
+use Rattle.model.specs.Request.{Search, allExclusions}
+use Rattle.model.specs.Path.{exclusionsAt}
 use Rattle.laws.proofs.AcceptedPaths.{accepted-costs}
 use Rattle.tree_levels.specs.Levels.{nodesAt, startOf}
 use Rattle.tree_levels.proofs.Blocks.{place-nodes}
@@ -21,8 +22,8 @@ use Rattle.tree_step.specs.declared.Leg.{Leg}
 use Rattle.tree_vspt.specs.Leg.{LegIs}
 use Rattle.tree_reaches.specs.Reaches.{codeIf, codeAt, NextPlace}
 use Rattle.tree_step.specs.Step.{levelCodes}
-use Rattle.tree_vspt.specs.Tree.{Holds, filledAt, filledFrom, LaidOutFor}
-use Rattle.tree_vspt.proofs.Filled.{level-long, codes-long, end-nodes, filled-end, filled-more, filled-first, filled-long}
+use Rattle.tree_vspt.specs.Tree.{Holds, HoldsFrom, filledAt, filledFrom, LaidOutFor}
+use Rattle.tree_vspt.proofs.Filled.{level-long, starts-later, end-nodes, filled-end, filled-more, filled-first, filled-long, filled-holds, holds-first, holds-more, filled-before}
 use Rattle.tree_vspt.proofs.Known.{end-code}
 use Rattle.tree_vspt.proofs.Next.{next-place-of}
 use Rattle.tree_vspt.proofs.LevelIs.{level-codes-is}
@@ -41,15 +42,8 @@ module _
     cheap : (h : Hop) → List·Memᴰ h (S .hops) → h .cost ≤ costLimit
     cheap h m = let k = accepted-costs L s (ready .profile-right) h m in omega arith
 
-    -- a place starts no later than the end
-    ends-by : (i : ℕ) → i ≤ suc (q .count) → startOf S i ≤ startOf S (suc (length (S .sequence)))
-    ends-by i h =
-        let e : i + (suc (length (S .sequence)) - i) ≡ suc (length (S .sequence)) = omega (arith, stops-long q) in
-        let m = ap (startOf S) e in
-        omega (arith, codes-long S i (suc (length (S .sequence)) - i))
-
-    starts-by : (i : ℕ) → i ≤ suc (q .count) → startOf S i ≤ 242
-    starts-by i h = omega (arith, out .laid .fits, ends-by i h)
+    pub starts-by : (i : ℕ) → i ≤ suc (q .count) → startOf S i ≤ 242
+    starts-by i h = omega (arith, out .laid .fits, starts-later S i (suc (length (S .sequence))) (omega (arith, stops-long q)))
 
     later : (i : ℕ) → startOf S i ≤ startOf S (suc i)
     later i = omega (arith, level-long S i)
@@ -68,6 +62,7 @@ module _
         : (i : ℕ) (d : List ℕ) (value : ℕ) → i ≡ q .count → length d ≡ 242
         → value ≡ codeIf (not (excludedNode (inForce (q .round) (subobjects exclude)) (q .destination .0))) 0
         → set d (getD starts i 0) value ≡ filledFrom S i 1 d
+    unfolding exclusionsAt allExclusions
     filled-last i d value e long v =
         let n : i ≡ length (S .sequence) = e ∙ sym (stops-long q) in
         let at = out .laid .starts-are i (omega (arith, stops-long q)) in
@@ -102,8 +97,9 @@ module _
       pub placed
           : (exit : List ℕ) → exit ≡ paste mid (leg .start) (levelCodes L s exclude leg (q .limits .bandwidth) addresses mid) (leg .next - leg .start)
           → exit ≡ filledAt S i mid
+      unfolding exclusionsAt allExclusions
       placed exit e =
-          let codes = level-codes-is S (q .round) L s exclude few cheap refl refl i (omega (arith, stops-long q)) leg is addresses mid here-nodes next-nodes known in
+          let codes = level-codes-is S (q .round) L s exclude few cheap refl i refl (omega (arith, stops-long q)) leg is addresses mid here-nodes next-nodes known in
           let count : leg .next - leg .start ≡ length (map (codeAt S i) (nodesAt S i)) = let a = is .start-is in let b = is .next-is in omega (arith, level-long S i) in
           e ∙ (λ j. paste mid (is .start-is j) (codes j) (count j))
 
@@ -123,8 +119,37 @@ module _
       pub next-codes : Holds S (suc i) mid
       next-codes = ap (slice (startOf S (suc i)) (startOf S (suc (suc i)))) written ∙ filled-first S (suc i) m d (omega (arith, starts-by (suc i) (omega arith)))
 
+      pub written-stands : HoldsFrom S (suc i) mid
+      written-stands =
+          subst (HoldsFrom S (suc i)) (sym written)
+          (filled-holds S (suc i) (suc m) d (omega (arith, stops-long q)) (omega (arith, starts-by (suc i) (omega arith))))
+
       pub filled-step : (exit : List ℕ) → exit ≡ filledAt S i mid → exit ≡ filledFrom S i (suc (suc m)) d
       filled-step exit e = e ∙ ap (filledAt S i) written ∙ filled-more S i (suc m) d (omega (arith, starts-by (suc i) (omega arith)))
 
       pub exit-long : (exit : List ℕ) → exit ≡ filledAt S i mid → length exit ≡ length d
       exit-long exit e = placed-long i (omega arith) mid exit mid-long e ∙ mid-long ∙ sym long
+
+    -- ---- a place before those that stand
+
+    module _ (n i : ℕ) (e : suc i ≡ n) (h : n ≤ q .count) (d : List ℕ) (long : length d ≡ 242) (stands : HoldsFrom S n d) where
+      from-next : HoldsFrom S (suc i) d
+      from-next = subst (λ (k : ℕ). HoldsFrom S k d) (sym e) stands
+
+      pub stands-next : Holds S (suc i) d
+      stands-next = holds-first S (suc i) d (omega (arith, stops-long q)) from-next
+
+      pub stands-more : (mid : List ℕ) → mid ≡ filledAt S i d → HoldsFrom S i mid
+      stands-more mid w =
+          subst (HoldsFrom S i) (sym w) (holds-more S i d (omega (arith, stops-long q)) (omega (arith, starts-by i (omega arith))) from-next)
+
+      pub filled-from : (mid exit : List ℕ) → mid ≡ filledAt S i d → exit ≡ filledFrom S 0 i mid → exit ≡ filledFrom S 0 n d
+      filled-from mid exit w f =
+          f
+          ∙ ap (filledFrom S 0 i) w
+          ∙ filled-before S i d (omega (arith, starts-by i (omega arith)))
+          ∙ ap (λ (k : ℕ). filledFrom S 0 k d) e
+
+    -- what is written before place n keeps the length
+    pub before-long : (n : ℕ) → n ≤ q .count → (d exit : List ℕ) → length d ≡ 242 → exit ≡ filledFrom S 0 n d → length exit ≡ length d
+    before-long n h d exit long e = ap length e ∙ filled-long S 0 n d (omega (arith, starts-by (0 + n) (omega arith)))

@@ -13,9 +13,8 @@ use borrow.Author.Tests.{eqb-true, eqb-false, eq-eqb, ne-eqb, ltb-false, le-ltb}
 use Rattle.model.specs.declared.Hop.{Hop}
 use Rattle.model.specs.declared.TreeEntry.{TreeEntry}
 use Rattle.model.specs.Profile.{between, costLimit}
-use Rattle.model.specs.Exclusion.{excludedNode}
 use Rattle.model.specs.Request.{Search}
-use Rattle.model.specs.Path.{legs, legAt, placeAllows, allowed, totalLimit}
+use Rattle.model.specs.Path.{legs, legAt, nodeExcludedAt, placeAllows, allowed, totalLimit}
 use Rattle.model.specs.Tree.{entriesAt, suffixesAt}
 use Rattle.laws.proofs.Tests.{decide}
 use Rattle.laws.proofs.EntryNodes.{mem-entryNodes}
@@ -102,9 +101,9 @@ module _ (S : Search) (few : length (S .sequence) ≤ 16) (cheap : (h : Hop) →
   unfolding allowed
   end-only a h =
       place-end S a
-      ∙ ap (λ (b : Bool). reachIf (not (excludedNode (S .exclusions) a) && placeAllows b S (length (S .sequence)) a) arrived) (le-ltb (length (S .sequence)) (length (S .sequence)) (omega arith))
-      ∙ ap (λ (b : Bool). reachIf (not (excludedNode (S .exclusions) a) && b) arrived) (ne-eqb a (S .destination) h)
-      ∙ and-none (not (excludedNode (S .exclusions) a))
+      ∙ ap (λ (b : Bool). reachIf (not (nodeExcludedAt S (length (S .sequence)) a) && placeAllows b S (length (S .sequence)) a) arrived) (le-ltb (length (S .sequence)) (length (S .sequence)) (omega arith))
+      ∙ ap (λ (b : Bool). reachIf (not (nodeExcludedAt S (length (S .sequence)) a) && b) arrived) (ne-eqb a (S .destination) h)
+      ∙ and-none (not (nodeExcludedAt S (length (S .sequence)) a))
     where
       and-none : (b : Bool) → reachIf (b && false) arrived ≡ unreached
       and-none true = refl
@@ -138,16 +137,16 @@ module _ (S : Search) (few : length (S .sequence) ≤ 16) (cheap : (h : Hop) →
           (decide (eqb (h .head .0) (S .destination)))
 
   -- at the end the destination reaches itself at no cost, unless it is excluded
-  pub end-code : codeAt S (length (S .sequence)) (S .destination) ≡ codeIf (not (excludedNode (S .exclusions) (S .destination))) 0
+  pub end-code : codeAt S (length (S .sequence)) (S .destination) ≡ codeIf (not (nodeExcludedAt S (length (S .sequence)) (S .destination))) 0
   unfolding allowed
   end-code =
       code-is (length (S .sequence)) (S .destination)
       ∙ ap codeOf
       (place-end S (S .destination)
-      ∙ ap (λ (b : Bool). reachIf (not (excludedNode (S .exclusions) (S .destination)) && placeAllows b S (length (S .sequence)) (S .destination)) arrived)
+      ∙ ap (λ (b : Bool). reachIf (not (nodeExcludedAt S (length (S .sequence)) (S .destination)) && placeAllows b S (length (S .sequence)) (S .destination)) arrived)
       (le-ltb (length (S .sequence)) (length (S .sequence)) (omega arith))
-      ∙ ap (λ (b : Bool). reachIf (not (excludedNode (S .exclusions) (S .destination)) && b) arrived) (eq-eqb (S .destination) (S .destination) refl))
-      ∙ go (not (excludedNode (S .exclusions) (S .destination)))
+      ∙ ap (λ (b : Bool). reachIf (not (nodeExcludedAt S (length (S .sequence)) (S .destination)) && b) arrived) (eq-eqb (S .destination) (S .destination) refl))
+      ∙ go (not (nodeExcludedAt S (length (S .sequence)) (S .destination)))
     where
       go : (b : Bool) → codeOf (reachIf (b && true) arrived) ≡ codeIf b 0
       go true = refl

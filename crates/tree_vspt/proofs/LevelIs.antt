@@ -15,7 +15,7 @@ use Rattle.model.specs.Subobject.{subobjects}
 use Rattle.model.specs.Exclusion.{inForce, excludedNode}
 use Rattle.model.specs.Floats.{atLeast}
 use Rattle.model.specs.Request.{Search}
-use Rattle.model.specs.Path.{legAt, keepsPin, placeAllows, allowed, leaves, hopsFrom}
+use Rattle.model.specs.Path.{legAt, exclusionsAt, nodeExcludedAt, keepsPin, placeAllows, allowed, leaves, hopsFrom}
 use Rattle.model.specs.Tree.{suffixesAt}
 use Rattle.model.specs.WrittenList.{pinIf}
 use Rattle.laws.specs.Reach.{unreached, leastFrom, reachIf, via, bestFrom}
@@ -31,14 +31,14 @@ use Rattle.tree_vspt.proofs.Known.{code-is, head-known}
 
 module _
     (S : Search) (x : Round) (L : Layout) (s exclude : List ℕ) (few : length (S .sequence) ≤ 16) (cheap : (h : Hop) → List·Memᴰ h (S .hops) → h .cost ≤ costLimit)
-    (hops-are : S .hops ≡ hops L s) (exclusions-are : S .exclusions ≡ inForce x (subobjects exclude)) (i : ℕ) (k : i < length (S .sequence)) (leg : Leg) (is : LegIs S x i leg)
+    (hops-are : S .hops ≡ hops L s) (i : ℕ) (exclusions-are : exclusionsAt S i ≡ inForce x (subobjects exclude)) (k : i < length (S .sequence)) (leg : Leg) (is : LegIs S x i leg)
   where
     tests : (a : ℕ) → allowedBy (leg .round) exclude (leg .excluded) (leg .pinned) (leg .pin .0) a ≡ allowed S i a
     unfolding allowed
     tests a =
         (λ j. not (excludedNode (inForce (is .round-is j) (subobjects exclude)) a) && (not (leg .excluded) && keepsPin (pinIf (leg .pinned) (leg .pin .0)) a))
         ∙ (λ j. not (excludedNode (sym exclusions-are j) a) && (not (is .excluded-is j) && keepsPin (is .pin-is j) a))
-        ∙ sym (ap (λ (b : Bool). not (excludedNode (S .exclusions) a) && placeAllows b S i a) (lt-ltb i (length (S .sequence)) k))
+        ∙ sym (ap (λ (b : Bool). not (nodeExcludedAt S i a) && placeAllows b S i a) (lt-ltb i (length (S .sequence)) k))
 
     abbrev pub nodes : List ℕ
     nodes = nodesAt S (suc i)

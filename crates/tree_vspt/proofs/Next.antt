@@ -2,7 +2,7 @@
 -- added to each number. From what was laid out.
 use mathlib.Core.Path.{_≡_, sym, ap, subst}
 use mathlib.Core.List.{List, map, List·Memᴰ}
-use Prim.Native.Nat.{ℕ, suc, _+_, _-_, _≤_, _<_}
+use Prim.Native.Nat.{ℕ, suc, _-_, _≤_, _<_}
 use native.Mathlib.Omega.{arith}
 use lib.ListN.{length, length-map, length-take}
 use lib.Seq.{slice}
@@ -16,7 +16,7 @@ use Rattle.tree_levels.specs.Levels.{nodesAt, startOf, LaidOut}
 use Rattle.tree_levels.proofs.Nodes.{nodes-ascending}
 use Rattle.tree_levels.proofs.Blocks.{place-nodes}
 use Rattle.tree_reaches.specs.Reaches.{codeAt, Small, beside, NextPlace}
-use Rattle.tree_vspt.proofs.Filled.{level-long, codes-long}
+use Rattle.tree_vspt.proofs.Filled.{level-long, starts-later}
 use Rattle.tree_vspt.proofs.Known.{beside-any, code-small}
 
 module _
@@ -28,11 +28,7 @@ module _
 
     -- it ends no later than the last
     ends-by : startOf S (suc i) ≤ startOf S (suc (length (S .sequence)))
-    ends-by =
-        let n = suc (length (S .sequence)) in
-        let e : suc i + (n - suc i) ≡ n = omega arith in
-        let m = ap (startOf S) e in
-        omega (arith, codes-long S (suc i) (n - suc i))
+    ends-by = starts-later S (suc i) (suc (length (S .sequence))) (omega arith)
 
     inside : startOf S (suc i) ≤ length addresses
     inside = omega (arith, ends-by, length-take (startOf S (suc (length (S .sequence)))) addresses, ap length (laid .addresses-are))

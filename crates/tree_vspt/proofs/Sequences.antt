@@ -17,8 +17,8 @@ use Rattle.model.specs.Profile.{Layout, domainStart, domainAt, domains}
 use Rattle.model.specs.Sequence.{Stop, domainOf, domainsOf, noDomain}
 use Rattle.model.specs.Subobject.{subobjects}
 use Rattle.model.specs.Exclusion.{inForce, excludedDomain}
-use Rattle.model.specs.Request.{Search}
-use Rattle.model.specs.Path.{Leg, legs, legAt, noLeg, noStop}
+use Rattle.model.specs.Request.{Search, allExclusions}
+use Rattle.model.specs.Path.{Leg, legs, legAt, noLeg, noStop, exclusionsAt}
 use Rattle.model.specs.WrittenList.{pinIf}
 use Rattle.laws.specs.Stops.{stopsOf}
 use Rattle.laws.proofs.Accepted.{accepted}
@@ -88,6 +88,7 @@ module _ (L : Layout) (s exclude : List ℕ) (q : Query) (ready : Ready L s excl
       → LaidOut (searchFor L s exclude q) L s addresses starts firsts lasts tally
       → (leg : Coded.Leg) → LegMade starts firsts lasts leg
       → LegFor L s (searchFor L s exclude q) (q .round) i leg
+  unfolding exclusionsAt allExclusions
   leg-for addresses starts firsts lasts tally laid leg made =
       let S : Search = searchFor L s exclude q in
       let n = stops-long q in

@@ -6,10 +6,8 @@ use lib.Dec.{ltb}
 use Prim.Native.Nat.{ℕ, suc}
 use Rattle.model.specs.declared.Round.{Round}
 use Rattle.model.specs.Profile.{Layout}
-use Rattle.model.specs.Sequence.{domainOf}
-use Rattle.model.specs.Exclusion.{excludedDomain}
 use Rattle.model.specs.Request.{Search}
-use Rattle.model.specs.Path.{legAt, stopAt}
+use Rattle.model.specs.Path.{legAt, stopAt, domainExcludedAt}
 use Rattle.model.specs.WrittenList.{pinIf}
 use Rattle.profile_hop_range.specs.Ranges.{PairRange}
 use Rattle.tree_levels.specs.Levels.{startOf}
@@ -27,7 +25,7 @@ pub record LegIs (S : Search) (x : Round) (i : ℕ) (leg : Leg) : Type 0 where
   pub from-is : leg .from .0 ≡ (legAt S i) .from
   pub to-is : leg .to .0 ≡ (legAt S i) .to
   pub round-is : leg .round ≡ x
-  pub excluded-is : leg .excluded ≡ excludedDomain (S .exclusions) (domainOf (S .domains) ((stopAt S i) .domain))
+  pub excluded-is : leg .excluded ≡ domainExcludedAt S i
   pub pin-is : pinIf (leg .pinned) (leg .pin .0) ≡ (stopAt S i) .pin
   pub start-is : leg .start ≡ startOf S i
   pub next-is : leg .next ≡ startOf S (suc i)

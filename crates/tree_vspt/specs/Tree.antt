@@ -1,6 +1,6 @@
 -- The numbers of all places from one on, as they stand one after the other behind the places before.
 use mathlib.Core.List.{List, map}
-use Prim.Native.Nat.{ℕ, suc}
+use Prim.Native.Nat.{ℕ, suc, _-_}
 use mathlib.Core.Path.{_≡_}
 use lib.ListN.{length, take}
 use lib.Seq.{slice, paste}
@@ -26,6 +26,10 @@ Holds S i codes = slice (startOf S i) (startOf S (suc i)) codes ≡ map (codeAt 
 
 abbrev pub filledAt : Search → ℕ → List ℕ → List ℕ
 filledAt S i old = paste old (startOf S i) (map (codeAt S i) (nodesAt S i)) (length (map (codeAt S i) (nodesAt S i)))
+
+-- the numbers of all places from place i on, the end's too, stand behind those before it
+abbrev pub HoldsFrom : Search → ℕ → List ℕ → Type 0
+HoldsFrom S i codes = slice (startOf S i) (startOf S (suc (length (S .sequence)))) codes ≡ codesFrom S i (suc (length (S .sequence)) - i)
 
 -- what is laid out for a query
 pub record LaidOutFor (L : Layout) (s exclude : List ℕ) (q : Query) (addresses starts firsts lasts : List ℕ) : Type 0 where

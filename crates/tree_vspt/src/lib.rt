@@ -18,7 +18,6 @@ ghost use Prim.Native.Nat.{ℕ, suc, _+_, _<_, _≤_};
 ghost use lib.ListN.{length, getD};
 ghost use Rattle.model.specs.declared.ListKind.the-variants.{Exclude};
 ghost use Rattle.model.specs.declared.Verdict.the-variants.{Pass};
-ghost use Rattle.model.specs.Profile.{costLimit};
 ghost use Rattle.model.specs.Exclusion.{inForce, excludedNode};
 ghost use Rattle.model.specs.Subobject.{formVerdict, subobjects};
 ghost use Rattle.profile_records.specs.Layout.{layoutOf, SoundLayout};
@@ -26,7 +25,7 @@ ghost use Rattle.tree_levels.specs.Levels.{LaidOut};
 ghost use Rattle.request.specs.Query.{searchFor, Ready};
 ghost use Rattle.tree_reaches.specs.Reaches.{codeIf};
 ghost use Rattle.tree_vspt.specs.Leg.{nextPlace, LegFor};
-ghost use Rattle.tree_vspt.specs.Tree.{Holds, filledAt, filledFrom, LaidOutFor, TreeCodes};
+ghost use Rattle.tree_vspt.specs.Tree.{Holds, HoldsFrom, filledAt, filledFrom, LaidOutFor, TreeCodes};
 
 // Behind the last domain: the destination reaches itself at no cost, unless it is excluded in the round.
 fn arrival(exclude: &[u8], round: Round, destination: NodeAddress) -> u32
@@ -103,7 +102,7 @@ fn fill_place(
     lasts: &[usize; 16],
     reaches: &mut [u32],
 )
-    requires { ⌜ SoundLayout (layoutOf layout) × (layoutOf layout .mostCost ≤ costLimit) × Ready (layoutOf layout) (now s) (now exclude) q × (i < q .count) ⌝ }
+    requires { ⌜ SoundLayout (layoutOf layout) × Ready (layoutOf layout) (now s) (now exclude) q × (i < q .count) ⌝ }
     requires { ⌜ LaidOutFor (layoutOf layout) (now s) (now exclude) q (now addresses) (now starts) (now firsts) (now lasts) × (length (now reaches) ≡ 242) ⌝ }
     requires { ⌜ Holds (searchFor (layoutOf layout) (now s) (now exclude) q) (suc i) (now reaches) ⌝ }
     ensures { λ _. ⌜ now (reaches .exit) ≡ filledAt (searchFor (layoutOf layout) (now (s .entry)) (now (exclude .entry)) q) i (now (reaches .entry)) ⌝ }
@@ -127,7 +126,7 @@ fn fill_from(
     lasts: &[usize; 16],
     reaches: &mut [u32],
 )
-    requires { ⌜ SoundLayout (layoutOf layout) × (layoutOf layout .mostCost ≤ costLimit) × Ready (layoutOf layout) (now s) (now exclude) q × (i + left ≡ q .count) ⌝ }
+    requires { ⌜ SoundLayout (layoutOf layout) × Ready (layoutOf layout) (now s) (now exclude) q × (i + left ≡ q .count) ⌝ }
     requires { ⌜ LaidOutFor (layoutOf layout) (now s) (now exclude) q (now addresses) (now starts) (now firsts) (now lasts) × (length (now reaches) ≡ 242) ⌝ }
     ensures { λ _. ⌜ now (reaches .exit) ≡ filledFrom (searchFor (layoutOf layout) (now (s .entry)) (now (exclude .entry)) q) i (suc left) (now (reaches .entry)) ⌝ }
 {
@@ -165,8 +164,56 @@ fn fill_from(
     );
 }
 
-// The whole tree of a query in its round, over the entries that are laid out: how each reaches the destination. The first place is a call of its own: were
-// `fill_place` called by the recursion alone, the compiler would draw it in, and with it some 300 bytes into the frame of each place.
+// The reaches of the places before place n, the last first, each from the one after it. Those from place n on stand, and aren't touched.
+pub fn fill_before(
+    s: &[u8],
+    layout: Layout,
+    exclude: &[u8],
+    q: Query,
+    n: usize,
+    addresses: &[u32; 242],
+    starts: &[usize; 18],
+    firsts: &[usize; 16],
+    lasts: &[usize; 16],
+    reaches: &mut [u32],
+)
+    requires { ⌜ SoundLayout (layoutOf layout) × Ready (layoutOf layout) (now s) (now exclude) q × (n ≤ q .count) ⌝ }
+    requires { ⌜ LaidOutFor (layoutOf layout) (now s) (now exclude) q (now addresses) (now starts) (now firsts) (now lasts) × (length (now reaches) ≡ 242) ⌝ }
+    requires { ⌜ HoldsFrom (searchFor (layoutOf layout) (now s) (now exclude) q) n (now reaches) ⌝ }
+    ensures { λ _. ⌜ (now (reaches .exit) ≡ filledFrom (searchFor (layoutOf layout) (now (s .entry)) (now (exclude .entry)) q) 0 n (now (reaches .entry))) × TreeCodes (searchFor (layoutOf layout) (now (s .entry)) (now (exclude .entry)) q) (now (reaches .exit)) ⌝ }
+{
+    if n == 0 {
+        return;
+    }
+    let i = n - 1;
+    fill_place(
+        s,
+        layout,
+        exclude,
+        q,
+        i,
+        addresses,
+        starts,
+        firsts,
+        lasts,
+        reaches,
+    );
+    fill_before(
+        s,
+        layout,
+        exclude,
+        q,
+        i,
+        addresses,
+        starts,
+        firsts,
+        lasts,
+        reaches,
+    );
+}
+
+// The whole tree of a query in its round, over the entries that are laid out: how each reaches the destination. The first place is filled apart: were
+// `fill_place` called by one recursion alone, the compiler would draw it in, and with it some 300 bytes into the frame of each place.
 pub fn fill_tree(
     s: &[u8],
     layout: Layout,
@@ -178,7 +225,7 @@ pub fn fill_tree(
     lasts: &[usize; 16],
     reaches: &mut [u32; 242],
 )
-    requires { ⌜ SoundLayout (layoutOf layout) × (layoutOf layout .mostCost ≤ costLimit) × Ready (layoutOf layout) (now s) (now exclude) q ⌝ }
+    requires { ⌜ SoundLayout (layoutOf layout) × Ready (layoutOf layout) (now s) (now exclude) q ⌝ }
     requires { ⌜ LaidOutFor (layoutOf layout) (now s) (now exclude) q (now addresses) (now starts) (now firsts) (now lasts) × (length (now reaches) ≡ 242) ⌝ }
     ensures { λ _. ⌜ TreeCodes (searchFor (layoutOf layout) (now (s .entry)) (now (exclude .entry)) q) (now (reaches .exit)) × (length (now (reaches .exit)) ≡ 242) ⌝ }
 {
@@ -196,12 +243,12 @@ pub fn fill_tree(
         lasts,
         reaches,
     );
-    fill_place(
+    fill_before(
         s,
         layout,
         exclude,
         q,
-        0,
+        1,
         addresses,
         starts,
         firsts,

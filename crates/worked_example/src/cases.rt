@@ -1,5 +1,8 @@
 // Document 01's profile W and four requests on it. S, P, Q, T, U and Z are the nodes 192.0.2.1, .11, .12, .21, .22 and .99.
+use model::DomainIndex;
 use model::Limits;
+use model::NodeAddress;
+use request::Asked;
 
 pub const S: u32 = 0xC0000201;
 
@@ -41,5 +44,15 @@ pub fn limits() -> Limits {
         bandwidth: 100.0,
         bound: 0.0,
         bounded: false,
+    }
+}
+
+// From S in domain 0 to Z.
+pub fn asked() -> Asked {
+    Asked {
+        ingress: DomainIndex(0),
+        source: NodeAddress(S),
+        destination: NodeAddress(Z),
+        limits: limits(),
     }
 }

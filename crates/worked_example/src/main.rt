@@ -8,6 +8,7 @@ use crate::cases::PROFILE_W;
 use crate::cases::S;
 use crate::cases::WITHOUT_Q;
 use crate::cases::Z;
+use crate::cases::asked;
 use crate::cases::limits;
 use crate::lent::lent_tree;
 use model::DomainIndex;
@@ -76,16 +77,7 @@ fn show_tree(profile: &[u8], include: &[u8], exclude: &[u8]) {
 
 // The first path, into `path`; whether there is one.
 fn show_first(profile: &[u8], include: &[u8], exclude: &[u8], path: &mut [u32; 4]) -> bool {
-    let answer = first(
-        profile,
-        DomainIndex(0),
-        NodeAddress(S),
-        NodeAddress(Z),
-        include,
-        exclude,
-        limits(),
-        path,
-    );
+    let answer = first(profile, asked(), include, exclude, path);
     print_answer(b"first", five_of(answer), *path)
 }
 
@@ -97,17 +89,7 @@ fn show_next(
     given: &[u32; 4],
     path: &mut [u32; 4],
 ) -> bool {
-    let answer = next(
-        profile,
-        DomainIndex(0),
-        NodeAddress(S),
-        NodeAddress(Z),
-        include,
-        exclude,
-        limits(),
-        given,
-        path,
-    );
+    let answer = next(profile, asked(), include, exclude, given, path);
     print_answer(b"next", five_of(answer), *path)
 }
 

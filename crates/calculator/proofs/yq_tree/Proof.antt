@@ -1,8 +1,8 @@
--- `calculator::yq_tree` meets its contract: the limits are those of the bits, and what the call answers is told.
+-- `calculator::yq_tree` meets its contract: what is asked is told by its numbers, and what the call answers is told.
 use mathlib.Core.Path.{subst}
-use Rattle.model.specs.declared.Limits.{Limits}
 use Rattle.model.specs.Calls.{buildTree}
-use Rattle.request.specs.CheckedRequest.{requestOf}
+use Rattle.request.specs.declared.Asked.{Asked}
+use Rattle.request.specs.CheckedRequest.{requestFor}
 use Rattle.buffers.specs.Capacity.{least4}
 use Rattle.tree_fields.specs.TreeResult.{TreeIn}
 use Rattle.calculator.proofs.Exported.{tree-export}
@@ -10,8 +10,8 @@ use borrow.Author.Needs.{needs}
 use Rattle.calculator.proofs.yq_tree.Statement.{statement}
 use Rattle.calculator.proofs.yq_tree.Tie as tie
 
-limits-of-requires : tie.Need-limits-of-requires
-limits-of-requires c κs = search needs
+asked-of-requires : tie.Need-asked-of-requires
+asked-of-requires c κs = search needs
 
 tree-numbers-requires : tie.Need-tree-numbers-requires
 tree-numbers-requires c κs = search needs
@@ -37,9 +37,9 @@ returns c =
     let t = c .before .before .before .before .before .before .before .before .before .before .tree-numbers in
     tree-export _ _ _ _ _ _ _ _ _ _ _ (t .result)
     (subst
-    (λ (l : Limits).
-    TreeIn (buildTree (requestOf (a .profile .now) (a .ingress) (a .source) (a .destination) (a .include .now) (a .exclude .now) l) (least4 (a .level .now) (a .address .now) (a .reachable .now) (a .cost .now))) (a .level .now) (a .address .now) (a .reachable .now) (a .cost .now) (t .result) (t .last .1 .1 .1 .1 .1 .1 .1 .0) (t .last .1 .1 .1 .1 .1 .1 .1 .1 .0) (t .last .1 .1 .1 .1 .1 .1 .1 .1 .1 .0) (t .last .1 .1 .1 .1 .1 .1 .1 .1 .1 .1 .0))
-    (c .before .before .before .before .before .before .before .before .before .before .before .before .before .before .before .limits-of .ensures)
+    (λ (asked : Asked).
+    TreeIn (buildTree (requestFor (a .profile .now) asked (a .include .now) (a .exclude .now)) (least4 (a .level .now) (a .address .now) (a .reachable .now) (a .cost .now))) (a .level .now) (a .address .now) (a .reachable .now) (a .cost .now) (t .result) (t .last .1 .1 .1 .1 .0) (t .last .1 .1 .1 .1 .1 .0) (t .last .1 .1 .1 .1 .1 .1 .0) (t .last .1 .1 .1 .1 .1 .1 .1 .0))
+    (c .before .before .before .before .before .before .before .before .before .before .before .before .before .before .before .asked-of .ensures)
     (t .ensures))
     (c .tell-tree .ensures .0)
     (c .tell-tree .ensures .1)
@@ -48,7 +48,7 @@ pub yq-tree-spec : {M : Type 1} → statement M
 yq-tree-spec =
     tie.close
     (tie.spec
-    limits-of-requires
+    asked-of-requires
     tree-numbers-requires
     tell-tree-requires
     same-length

@@ -3,7 +3,7 @@ use Prim.Native.Nat.{_-_}
 use mathlib.Core.Path.{sym, _∙_}
 use native.Mathlib.Omega.{arith}
 use lib.ListN.{length}
-use Rattle.list_exclusion.proofs.Exclusions.{Undecided, undecided, none-left, readable-here, item-here, decided, passed, barsDomain, domain-barred}
+use Rattle.list_exclusion.proofs.Exclusions.{Undecided, undecided, none-left, readable-here, decided, passed, barsDomain, domain-barred}
 use Rattle.list_exclusion.proofs.excludes_domain.Statement.{statement}
 use Rattle.list_exclusion.proofs.excludes_domain.Tie as tie
 
@@ -24,10 +24,7 @@ subobject-at-requires c κs =
     readable-here (barsDomain (a .round) (a .d)) (a .list .now) (c .before .loop .at) (c .before .loop .inv) (c .loop-test .taken)
 
 bars-domain-requires : tie.Need-bars-domain-requires Inv-loop μ-loop
-bars-domain-requires c κs =
-    let a = c .before .before .before .before .args in
-    let l = c .before .before .loop in
-    ((item-here (barsDomain (a .round) (a .d)) (a .list .now) (l .at) (l .inv) (c .before .loop-test .taken) _ (c .subobject-at .ensures)) .area, c .before .before .before .before .pre .1)
+bars-domain-requires c κs = (c .subobject-at .ensures .area, c .before .before .before .before .pre .1)
 
 returns : tie.Need-returns Inv-loop μ-loop
 returns c =
@@ -38,11 +35,7 @@ returns c =
     ∙ domain-barred (a .round) (a .d) (a .list .now)
 
 loop-less : tie.Need-loop-less Inv-loop μ-loop
-loop-less c =
-    let a = c .before .before .before .before .before .before .args in
-    let l = c .before .before .before .before .loop in
-    let is = item-here (barsDomain (a .round) (a .d)) (a .list .now) (l .at) (l .inv) (c .before .before .before .loop-test .taken) _ (c .before .before .subobject-at .ensures) in
-    omega (arith, is .further, is .inside)
+loop-less c = let is = c .before .before .subobject-at .ensures in omega (arith, is .further, is .inside)
 
 loop-again : tie.Need-loop-again Inv-loop μ-loop
 loop-again c =

@@ -3,7 +3,7 @@ use Prim.Native.Nat.{_-_}
 use mathlib.Core.Path.{sym, _∙_}
 use native.Mathlib.Omega.{arith}
 use lib.ListN.{length}
-use Rattle.list_exclusion.proofs.Exclusions.{Undecided, undecided, none-left, readable-here, item-here, decided, passed, barsNode, node-barred}
+use Rattle.list_exclusion.proofs.Exclusions.{Undecided, undecided, none-left, readable-here, decided, passed, barsNode, node-barred}
 use Rattle.list_exclusion.proofs.excludes_node.Statement.{statement}
 use Rattle.list_exclusion.proofs.excludes_node.Tie as tie
 
@@ -35,11 +35,7 @@ returns c =
     ∙ node-barred (a .round) (a .node .0) (a .list .now)
 
 loop-less : tie.Need-loop-less Inv-loop μ-loop
-loop-less c =
-    let a = c .before .before .before .before .before .before .args in
-    let l = c .before .before .before .before .loop in
-    let is = item-here (barsNode (a .round) (a .node .0)) (a .list .now) (l .at) (l .inv) (c .before .before .before .loop-test .taken) _ (c .before .before .subobject-at .ensures) in
-    omega (arith, is .further, is .inside)
+loop-less c = let is = c .before .before .subobject-at .ensures in omega (arith, is .further, is .inside)
 
 loop-again : tie.Need-loop-again Inv-loop μ-loop
 loop-again c =

@@ -68,7 +68,7 @@ use Rattle.list_subobject.proofs.walk.moved_past as moved
 use Rattle.list_subobject.proofs.walk.moved_past.Symbol as moved-def
 use Rattle.list_subobject.proofs.walk.moved_past.Symbol.{name as #moved-past}
 use Rattle.list_subobject.proofs.walk.moved_past.Met as moved-thm
-use Rattle.list_exclusion.proofs.Exclusions.{Undecided, someNamed, undecided, none-left, readable-here, item-here, decided, passed}
+use Rattle.list_exclusion.proofs.Exclusions.{Undecided, someNamed, undecided, none-left, readable-here, decided, passed}
 use Rattle.list_exclusion.proofs.some_desired.Key.{name as #some-desired}
 use Rattle.list_exclusion.proofs.some_desired as f
 use Rattle.list_exclusion.proofs.some_desired.Statement as stated
@@ -173,12 +173,12 @@ module _ {M : Type 1} (𝓤 : URA M) (H : Heap 𝓤) (A : Atoms 𝓤) (W : Given
           use1 W (later (some (λ (x : Walk). ((‵ (flft κ q) ⊛ ‵ ftrue) ⊛ ‵ (B (κ, tt) .own x (v′ ∷ []))) ⊛ raw (ensured 𝓤 H A moved.ended (moved.clauses 𝓤 H A mem run) (κ, tt) (wk i, tt) tt x)))) (id⊢ 𝓤 _) $ await ! tt $ pick ! (λ x.
           split ! $ move ! (1 ∷ []) $ use1 W (raw (fact 𝓤 (Past (wk i) x))) (moved-said 𝓤 H A mem run κ q (wk i) x) $ heard ! (Past (wk i) x) (λ past. split ! $ move ! (1 ∷ []) $
           peeks ! (B (κ, tt)) (Is (B (κ, tt))) (shows 𝓤 H A (B (κ, tt))) x (v′ ∷ []) (λ x-is.
-          let there : x ≡ wk (t .next) = λ n. record { list = past .0 n; at = (past .1 ∙ sym (item-here isDesired l i u h t it .next)) n } in
+          let there : x ≡ wk (t .next) = λ n. record { list = past .0 n; at = (past .1 ∙ sym (it .next)) n } in
           land-last ! (from ! (stop !)) (store ! 18 refl (typed-here 𝓤 H A W κ x v′ x-is)) $
           rewrite ! 18 (λ (y : Val). ‵ (fat fullShare (T′.mir erased) l₂ 0 y)) (ap only (is-mach 𝓤 H A W κ x v′ x-is) ∙ ap mach there) refl $
           rewrite ! 0 (λ (ws : List Val). ‵ (B (κ, tt) .own x ws)) (is-mach 𝓤 H A W κ x v′ x-is) refl $ rewrite ! 0 (λ (y : Walk). ‵ (Own κ y)) there refl $ forget ! 6 refl $ forget ! 10 refl $
           use0 W (raw (fact 𝓤 (Undecided isDesired l (t .next)))) (factI 𝓤 (Undecided isDesired l (t .next)) (emp 𝓤) (passed isDesired l i u h t it (T-false (t .top) z))) $
-          by ! (k (t .next) (omega (arith, item-here isDesired l i u h t it .further)) (item-here isDesired l i u h t it .inside)))))))))))))
+          by ! (k (t .next) (omega (arith, it .further)) (it .inside)))))))))))))
         where
           small : i < 2 ^ 64
           small = omega (arith, fits)

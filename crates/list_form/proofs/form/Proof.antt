@@ -19,7 +19,10 @@ abbrev μ-loop : tie.MeasureT-loop
 μ-loop kind list at₀ at = length list - at
 
 -- the subobject at hand passes
-right : (c : tie.After-enum-told Inv-loop μ-loop) → subobjectVerdict (c .before .before .before .before .before .before .args .kind) (c .before .before .before .before .before .before .args .list .now) (c .before .before .before .before .loop .at) ≡ Pass
+right
+    : (c : tie.After-enum-told Inv-loop μ-loop)
+    → let a = c .before .before .before .before .before .before .args in
+    subobjectVerdict (a .kind) (a .list .now) (length (a .list .now)) (c .before .before .before .before .loop .at) ≡ Pass
 right c = sym (c .before .before .form-at .ensures) ∙ c .enum-told .given .1
 
 loop-holds : tie.Need-loop-holds Inv-loop μ-loop
@@ -35,7 +38,7 @@ returns : tie.Need-returns Inv-loop μ-loop
 returns c =
     let a = c .before .before .before .before .before .before .before .args in
     let l = c .before .before .before .before .before .loop in
-    sym (form-refused (a .kind) (a .list .now) (l .at) (c .before .before .before .before .loop-test .taken) _ (sym (c .before .before .before .form-at .ensures) ∙ c .before .verdict .given .1))
+    sym (form-refused (a .kind) (a .list .now) (length (a .list .now)) (l .at) (c .before .before .before .before .loop-test .taken) _ (sym (c .before .before .before .form-at .ensures) ∙ c .before .verdict .given .1))
     ∙ l .inv .1
 
 enum-told : tie.Need-enum-told Inv-loop μ-loop
@@ -44,12 +47,12 @@ enum-told c = search needs
 next-after-requires : tie.Need-next-after-requires Inv-loop μ-loop
 next-after-requires c κs =
     let a = c .before .before .before .before .before .before .args in
-    readable (a .kind) (a .list .now) (c .before .before .before .before .loop .at) (right c)
+    readable (a .kind) (a .list .now) (length (a .list .now)) (c .before .before .before .before .loop .at) (omega arith) (right c)
 
 loop-less : tie.Need-loop-less Inv-loop μ-loop
 loop-less c =
     let a = c .before .before .before .before .before .before .before .args in
-    let r = right-subobject (a .kind) (a .list .now) (c .before .before .before .before .before .loop .at) (right (c .before)) in
+    let r = right-subobject (a .kind) (a .list .now) (length (a .list .now)) (c .before .before .before .before .before .loop .at) (right (c .before)) in
     let n = c .next-after .ensures in
     omega (arith, r .whole, r .long)
 
@@ -59,9 +62,9 @@ loop-again c =
     let l = c .before .before .before .before .before .loop in
     let e = right (c .before) in
     let n = c .next-after .ensures in (
-      rw n ((right-subobject (a .kind) (a .list .now) (l .at) e) .whole),
+      rw n ((right-subobject (a .kind) (a .list .now) (length (a .list .now)) (l .at) e) .whole),
       ap (formLeft (a .kind) (a .list .now)) n
-          ∙ sym (form-next (a .kind) (a .list .now) (l .at) (c .before .before .before .before .loop-test .taken) e)
+          ∙ sym (form-next (a .kind) (a .list .now) (length (a .list .now)) (l .at) (c .before .before .before .before .loop-test .taken) e)
           ∙ l .inv .1,
     )
 
@@ -69,7 +72,7 @@ returns-2 : tie.Need-returns-2 Inv-loop μ-loop
 returns-2 c =
     let a = c .before .before .before .args in
     let l = c .before .loop in
-    sym (form-end _ (a .kind) (a .list .now) (l .at) (c .loop-test .left)) ∙ l .inv .1
+    sym (form-end (a .kind) (a .list .now) (length (a .list .now)) (l .at) (c .loop-test .left)) ∙ l .inv .1
 
 pub form-spec : {M : Type 1} → statement M
 form-spec =

@@ -14,7 +14,7 @@ use Rattle.list_form.proofs.form_at.Tie as tie
 four : (c : tie.Else1) → c .before .before .args .at + 4 ≤ length (c .before .before .args .list .now)
 four c = omega arith
 
-right-head : (c : tie.Else2) → let a = c .before .before .before .before .before .before .before .args in head (a .kind) (a .list .now) (a .at) ≡ 0
+right-head : (c : tie.Else2) → let a = c .before .before .before .before .before .before .before .args in head (a .kind) (a .list .now) (length (a .list .now)) (a .at) ≡ 0
 right-head c = sym (c .before .head-wrong .ensures) ∙ c .if2 .left
 
 in-list : (c : tie.Else3) → let a = c .before .before .before .before .before .before .before .before .before .args in a .at + lengthAt (a .list .now) (a .at) ≤ length (a .list .now)
@@ -32,7 +32,7 @@ refuse-at-requires c κs = search needs
 returns : tie.Need-returns
 returns c =
     let a = c .before .before .before .args in
-    c .refuse-at .ensures ∙ sym (short (a .kind) (a .list .now) (a .at) (omega arith))
+    c .refuse-at .ensures ∙ sym (short (a .kind) (a .list .now) (length (a .list .now)) (a .at) (omega arith))
 
 add-n : tie.Need-add-n
 add-n c = search needs
@@ -61,7 +61,7 @@ returns-2 c =
     let n = c .before .before .head-wrong .ensures in
     c .refuse-at2 .ensures
     ∙ ap (λ (x : ℕ). refusal x (a .at)) n
-    ∙ sym (bad-head (a .kind) (a .list .now) (a .at) (four (c .before .before .before .before .before .before)) (λ e. c .before .if2 .taken (n ∙ e)))
+    ∙ sym (bad-head (a .kind) (a .list .now) (length (a .list .now)) (a .at) (four (c .before .before .before .before .before .before)) (λ e. c .before .if2 .taken (n ∙ e)))
 
 wide-requires : tie.Need-wide-requires
 wide-requires c κs = search needs
@@ -75,15 +75,16 @@ returns-3 c =
     let n = c .before .before .wide .ensures .0 in
     let h = c .before .before .before .before .before .before .before .before .before .before .pre .0 in
     c .refuse-at3 .ensures
-    ∙ sym (past-end (a .kind) (a .list .now) (a .at) (four (c .before .before .before .before .before .before .before .before)) (right-head (c .before .before .before)) (omega arith))
+    ∙ sym (past-end (a .kind) (a .list .now) (length (a .list .now)) (a .at) (four (c .before .before .before .before .before .before .before .before)) (right-head (c .before .before .before)) (omega arith))
 
 field-wrong-requires : tie.Need-field-wrong-requires
 field-wrong-requires c κs =
     let a = c .before .before .before .before .before .before .before .before .before .args in
     record {
+      kind = a .kind;
       long = four (c .before .before .before .before .before .before .before);
       inside = in-list c;
-      fits = head-fits (a .kind) (a .list .now) (a .at) (right-head (c .before .before));
+      fits = head-fits (a .kind) (a .list .now) (length (a .list .now)) (a .at) (right-head (c .before .before));
     }
 
 refuse-at-requires-4 : tie.Need-refuse-at-requires-4
@@ -93,12 +94,12 @@ returns-4 : tie.Need-returns-4
 returns-4 c =
     let a = c .before .before .before .before .before .before .before .before .before .before .before .before .args in
     c .refuse-at4 .ensures
-    ∙ sym (by-field (a .kind) (a .list .now) (a .at) (four (c .before .before .before .before .before .before .before .before .before .before)) (right-head (c .before .before .before .before .before)) (sym (c .before .if4 .taken) ∙ c .before .before .field-wrong .ensures) (in-list (c .before .before .before)))
+    ∙ sym (by-field (a .kind) (a .list .now) (length (a .list .now)) (a .at) (four (c .before .before .before .before .before .before .before .before .before .before)) (right-head (c .before .before .before .before .before)) (sym (c .before .if4 .taken) ∙ c .before .before .field-wrong .ensures) (in-list (c .before .before .before)))
 
 returns-5 : tie.Need-returns-5
 returns-5 c =
     let a = c .before .before .before .before .before .before .before .before .before .before .before .args in
-    sym (by-field (a .kind) (a .list .now) (a .at) (four (c .before .before .before .before .before .before .before .before .before)) (right-head (c .before .before .before .before)) (sym (c .if4 .left) ∙ c .before .field-wrong .ensures) (in-list (c .before .before)))
+    sym (by-field (a .kind) (a .list .now) (length (a .list .now)) (a .at) (four (c .before .before .before .before .before .before .before .before .before)) (right-head (c .before .before .before .before)) (sym (c .if4 .left) ∙ c .before .field-wrong .ensures) (in-list (c .before .before)))
 
 pub form-at-spec : {M : Type 1} → statement M
 form-at-spec =

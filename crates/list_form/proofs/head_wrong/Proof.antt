@@ -1,21 +1,34 @@
 -- `list_form::head_wrong` meets its contract: at each `return` the tests that led there say which case of `headWrong` holds.
-use mathlib.Core.Path.{_≡_, sym, _∙_}
+use mathlib.Core.Path.{_≡_, sym, ap, _∙_}
 use Prim.Native.Nat.{_%_}
-use mathlib.Core.Bool.{false}
+use mathlib.Core.Bool.{Bool, true, false, not, _&&_}
 use lib.Dec.{eqb, leb}
 use borrow.Author.Tests.{eq-eqb, ne-eqb}
-use Rattle.model.specs.Subobject.{topWrong}
+use Rattle.model.specs.Subobject as M
 use Rattle.list_subobject.specs.Lengths.{lengthOf}
+use Rattle.list_subobject.proofs.LengthLaws.{known-length, fits-length}
 use borrow.Author.Needs.{needs}
 use Rattle.list_form.specs.Checks.{headWrong}
 use Rattle.list_form.proofs.head_wrong.Statement.{statement}
 use Rattle.list_form.proofs.head_wrong.Tie as tie
 
 -- what the first tests passed say
-known : (c : tie.Else1) → eqb (lengthOf (c .before .before .args .first % 128) (c .before .before .args .area)) 0 ≡ false
-known c = ne-eqb _ _ (λ e. c .if1 .left (c .before .length-of .ensures ∙ e))
+known : (c : tie.Else1) → let a = c .before .before .args in M.known (a .kind) (a .first % 128) ≡ true
+known c =
+    let a = c .before .before .args in
+    known-length (a .kind) (a .area) (a .first % 128) ∙ ap not (ne-eqb _ 0 (λ e. c .if1 .left (c .before .length-of .ensures (a .kind) ∙ e)))
 
-unmarked : (c : tie.Else2) → topWrong (c .before .before .before .before .args .kind) (leb 128 (c .before .before .before .before .args .first)) ≡ false
+-- the length of a known type is the one found
+fits
+    : (c : tie.Else1)
+    → let a = c .before .before .args in
+    M.lengthFits (a .kind) (a .first % 128) (a .area) (a .n) ≡ eqb (a .n) (lengthOf (a .kind) (a .first % 128) (a .area))
+fits c =
+    let a = c .before .before .args in
+    fits-length (a .kind) (a .area) (a .n) (a .first % 128)
+    ∙ ap (λ (b : Bool). b && eqb (a .n) (lengthOf (a .kind) (a .first % 128) (a .area))) (known c)
+
+unmarked : (c : tie.Else2) → M.topWrong (c .before .before .before .before .args .kind) (leb 128 (c .before .before .before .before .args .first)) ≡ false
 unmarked c = sym (c .before .top-wrong .ensures) ∙ c .if2 .left
 
 length-of-requires : tie.Need-length-of-requires
@@ -23,7 +36,9 @@ length-of-requires c κs = search needs
 
 returns : tie.Need-returns
 unfolding headWrong
-returns c = simp (eq-eqb _ _ (sym (c .before .length-of .ensures) ∙ c .if1 .taken))
+returns c =
+    let a = c .before .before .args in
+    simp (known-length (a .kind) (a .area) (a .first % 128) ∙ ap not (eq-eqb _ 0 (sym (c .before .length-of .ensures (a .kind)) ∙ c .if1 .taken)))
 
 top-wrong-requires : tie.Need-top-wrong-requires
 top-wrong-requires c κs = search needs
@@ -46,7 +61,7 @@ returns-4 c =
       known (c .before .before .before .before .before),
       unmarked (c .before .before .before),
       sym (c .before .before .area-wrong .ensures) ∙ c .before .if3 .left,
-      ne-eqb _ _ (λ e. c .if4 .taken (e ∙ sym (c .before .before .before .before .before .before .length-of .ensures))),
+      fits (c .before .before .before .before .before) ∙ ne-eqb _ _ (λ e. c .if4 .taken (e ∙ sym (c .before .before .before .before .before .before .length-of .ensures _))),
     )
 
 returns-5 : tie.Need-returns-5
@@ -56,7 +71,7 @@ returns-5 c =
       known (c .before .before .before .before .before),
       unmarked (c .before .before .before),
       sym (c .before .before .area-wrong .ensures) ∙ c .before .if3 .left,
-      eq-eqb _ _ (c .if4 .left ∙ c .before .before .before .before .before .before .length-of .ensures),
+      fits (c .before .before .before .before .before) ∙ eq-eqb _ _ (c .if4 .left ∙ c .before .before .before .before .before .before .length-of .ensures _),
     )
 
 pub head-wrong-spec : {M : Type 1} → statement M

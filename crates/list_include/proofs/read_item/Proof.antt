@@ -1,7 +1,7 @@
--- `list_include::read_item` meets its contract: each arm is a case of `readNamed`.
+-- `list_include::read_item` meets its contract: each arm is a case of `readOne`.
 use mathlib.Core.Path.{sym, ap, subst, _∙_}
-use Rattle.model.specs.Profile.{domains}
 use Rattle.model.specs.Sequence as M
+use Rattle.model.specs.Request.{readingInput}
 use Rattle.list_subobject.specs.declared.item.Named.{Named}
 use Rattle.list_subobject.specs.Items.{namedOf, AreaInside}
 use Rattle.list_include.specs.Reading.{stateOf, ReadStepIs, nameFound}
@@ -35,21 +35,24 @@ name-found-requires : tie.Need-name-found-requires
 name-found-requires c κs = search needs
 
 returns : tie.Need-returns
+unfolding M.readOne
 returns c =
     let a = c .before .before .before .before .before .before .args in
-    subst (λ (x : Named). ReadStepIs (c .wait-for .result) (M.readNamed (domains (a .profile .now)) (a .item .offset) (stateOf (a .st)) (a .follows) (namedOf (a .list .now) x))) (sym (c .before .before .named .given .1))
+    subst (λ (x : Named). ReadStepIs (c .wait-for .result) (M.readOne (readingInput (a .profile .now)) (stateOf (a .st)) (record { offset = a .item .offset; top = a .item .top; names = namedOf (a .list .now) x }) (a .follows))) (sym (c .before .before .named .given .1))
     (c .wait-for .ensures)
 
 returns-2 : tie.Need-returns-2
+unfolding M.readOne
 returns-2 c =
     let a = c .before .before .before .before .before .before .args in
-    subst (λ (x : Named). ReadStepIs (c .read-system .result) (M.readNamed (domains (a .profile .now)) (a .item .offset) (stateOf (a .st)) (a .follows) (namedOf (a .list .now) x))) (sym (c .before .before .named2 .given .1))
+    subst (λ (x : Named). ReadStepIs (c .read-system .result) (M.readOne (readingInput (a .profile .now)) (stateOf (a .st)) (record { offset = a .item .offset; top = a .item .top; names = namedOf (a .list .now) x }) (a .follows))) (sym (c .before .before .named2 .given .1))
     (c .read-system .ensures)
 
 returns-3 : tie.Need-returns-3
+unfolding M.readOne
 returns-3 c =
     let a = c .before .before .before .before .before .before .before .args in
-    subst (λ (x : Named). ReadStepIs (c .name-found .result) (M.readNamed (domains (a .profile .now)) (a .item .offset) (stateOf (a .st)) (a .follows) (namedOf (a .list .now) x))) (sym (c .before .before .before .named3 .given .1))
+    subst (λ (x : Named). ReadStepIs (c .name-found .result) (M.readOne (readingInput (a .profile .now)) (stateOf (a .st)) (record { offset = a .item .offset; top = a .item .top; names = namedOf (a .list .now) x }) (a .follows))) (sym (c .before .before .before .named3 .given .1))
     (subst (ReadStepIs (c .name-found .result))
     (ap (nameFound (a .item .offset) (stateOf (a .st))) (c .before .of-area .ensures) ∙ sym (named-found (a .item .offset) (stateOf (a .st)) _))
     (c .name-found .ensures))

@@ -7,13 +7,12 @@ use lib.ListN.{length}
 use Rattle.model.specs.declared.ListKind.the-variants.{Include}
 use Rattle.model.specs.declared.Verdict.{Verdict}
 use Rattle.model.specs.declared.Verdict.the-variants.{Pass}
-use Rattle.model.specs.Profile.{domains}
-use Rattle.model.specs.Request.{provided}
+use Rattle.model.specs.Request.{readingInput, provided}
 use Rattle.model.specs.Sequence as M
 use Rattle.laws.specs.Left.{formLeft, subobjectsLeft}
 use Rattle.laws.proofs.Walk.{form-whole, right-here, right-next}
 use Rattle.model.specs.Subobject.{subobjectVerdict, subobjectAt, lengthAt}
-use Rattle.list_subobject.specs.Items.{ItemIs}
+use Rattle.list_subobject.specs.Items.{ItemAt}
 use Rattle.list_include.specs.Reading.{stateOf, SoundState, MeaningIs}
 use Rattle.list_subobject.proofs.FormLaws.{readable}
 use Rattle.list_include.proofs.Includes.{read-here, read-passed, read-refused, read-end, read-start}
@@ -25,7 +24,7 @@ Inv-loop profile list st₀ at₀ st at =
     (at ≤ length list)
     × SoundState st
     × (formLeft Include list at ≡ Pass)
-    × (M.readAll (domains profile) (subobjectsLeft list at) (stateOf st) ≡ M.readAll (domains profile) (subobjectsLeft list 0) (stateOf st₀))
+    × (M.readAll (readingInput profile) (subobjectsLeft list at) (stateOf st) ≡ M.readAll (readingInput profile) (subobjectsLeft list 0) (stateOf st₀))
 
 abbrev μ-loop : tie.MeasureT-loop
 μ-loop profile list st₀ at₀ st at = length list - at
@@ -33,27 +32,30 @@ abbrev μ-loop : tie.MeasureT-loop
 -- what the whole list means is what its rest means, read from the state at hand
 meant
     : (c : tie.At-loop Inv-loop μ-loop)
-    → M.readAll (domains (c .before .before .before .before .args .profile .now)) (subobjectsLeft (c .before .before .before .before .args .list .now) (c .loop .at)) (stateOf (c .loop .st))
-    ≡ M.meaning (domains (c .before .before .before .before .args .profile .now)) (c .before .before .before .before .args .ingress .0) (c .before .before .before .before .args .list .now)
+    → M.readAll (readingInput (c .before .before .before .before .args .profile .now)) (subobjectsLeft (c .before .before .before .before .args .list .now) (c .loop .at)) (stateOf (c .loop .st))
+    ≡ M.meaning (readingInput (c .before .before .before .before .args .profile .now)) (c .before .before .before .before .args .ingress .0) (c .before .before .before .before .args .list .now)
 meant c =
     let a = c .before .before .before .before .args in
-    c .loop .inv .3 ∙ read-start (domains (a .profile .now)) (a .list .now) (a .ingress .0) (stateOf (c .before .start .result)) ((c .before .start .ensures) .means)
+    c .loop .inv .3 ∙ read-start (readingInput (a .profile .now)) (a .list .now) (a .ingress .0) (stateOf (c .before .start .result)) ((c .before .start .ensures) .means)
 
 -- what is known in a turn: the subobject is right, and the step taken is the one of `readOne`
-here : (c : tie.In-loop Inv-loop μ-loop) → subobjectVerdict Include (c .before .before .before .before .before .args .list .now) (c .before .loop .at) ≡ Pass
-here c = right-here Include (c .before .before .before .before .before .args .list .now) (c .before .loop .at) (c .loop-test .taken) (c .before .loop .inv .2)
+here
+    : (c : tie.In-loop Inv-loop μ-loop)
+    → let s = c .before .before .before .before .before .args .list .now in
+    subobjectVerdict Include s (length s) (c .before .loop .at) ≡ Pass
+here c = right-here Include (c .before .before .before .before .before .args .list .now) _ (c .before .loop .at) (c .loop-test .taken) (c .before .loop .inv .2)
 
-item-is : (c : tie.After-subobject-at Inv-loop μ-loop) → ItemIs Include (c .before .before .before .before .before .before .args .list .now) (c .before .before .loop .at) (c .subobject-at .result)
-item-is c = c .subobject-at .ensures Include (here (c .before))
+item-is : (c : tie.After-subobject-at Inv-loop μ-loop) → ItemAt (c .before .before .before .before .before .before .args .list .now) (c .before .before .loop .at) (c .subobject-at .result)
+item-is c = c .subobject-at .ensures
 
 stepped
     : (c : tie.After-read-item Inv-loop μ-loop)
     → provided (c .read-item .result .verdict) (M.good (stateOf (c .read-item .result .state)))
-    ≡ M.readOne (domains (c .before .before .before .before .before .before .before .before .args .profile .now)) (stateOf (c .before .before .before .before .loop .st)) (subobjectAt (c .before .before .before .before .before .before .before .before .args .list .now) (c .before .before .before .before .loop .at))
+    ≡ M.readOne (readingInput (c .before .before .before .before .before .before .before .before .args .profile .now)) (stateOf (c .before .before .before .before .loop .st)) (subobjectAt (c .before .before .before .before .before .before .before .before .args .list .now) (c .before .before .before .before .loop .at))
     (M.areaNext (subobjectsLeft (c .before .before .before .before .before .before .before .before .args .list .now) (c .before .before .before .before .loop .at + lengthAt (c .before .before .before .before .before .before .before .before .args .list .now) (c .before .before .before .before .loop .at))))
 stepped c =
     (c .read-item .ensures) .means
-    ∙ read-here (domains (c .before .before .before .before .before .before .before .before .args .profile .now)) (c .before .before .before .before .before .before .before .before .args .list .now) (c .before .before .before .before .loop .at) (stateOf (c .before .before .before .before .loop .st)) (c .before .before .subobject-at .result) (c .before .area-at .result)
+    ∙ read-here (readingInput (c .before .before .before .before .before .before .before .before .args .profile .now)) (c .before .before .before .before .before .before .before .before .args .list .now) (c .before .before .before .before .loop .at) (stateOf (c .before .before .before .before .loop .st)) (c .before .before .subobject-at .result) (c .before .area-at .result)
     (item-is (c .before .before)) (c .before .area-at .ensures)
 
 start-requires : tie.Need-start-requires Inv-loop μ-loop
@@ -69,7 +71,7 @@ loop-holds c =
     )
 
 subobject-at-requires : tie.Need-subobject-at-requires Inv-loop μ-loop
-subobject-at-requires c κs = readable Include (c .before .before .before .before .before .args .list .now) (c .before .loop .at) (here c)
+subobject-at-requires c κs = readable Include (c .before .before .before .before .before .args .list .now) _ (c .before .loop .at) (omega arith) (here c)
 
 area-at-requires : tie.Need-area-at-requires Inv-loop μ-loop
 area-at-requires c κs = tt
@@ -94,7 +96,7 @@ returns c =
       means =
           sym
           (sym (meant (c .before .before .before .before .before .before .before))
-          ∙ read-refused (domains (a .profile .now)) (a .list .now) (l .at) (stateOf (l .st)) (c .before .before .before .before .before .before .loop-test .taken) (l .inv .2) _
+          ∙ read-refused (readingInput (a .profile .now)) (a .list .now) (l .at) (stateOf (l .st)) (c .before .before .before .before .before .before .loop-test .taken) (l .inv .2) _
           (sym (ap (λ (v : Verdict). provided v (M.good (stateOf (c .before .before .before .read-item .result .state)))) (c .before .verdict .given .1)) ∙ stepped (c .before .before .before)));
       sound = l .inv .1;
     }
@@ -115,15 +117,15 @@ loop-again c =
     let l = c .before .before .before .before .before .before .before .loop in
     let is = item-is (c .before .before .before .before .before) in
     let inside = is .inside in
-    let ds = domains (a .profile .now) in
+    let R = readingInput (a .profile .now) in
     let s = a .list .now in
-    let on : M.good (stateOf (c .before .before .before .read-item .result .state)) ≡ M.readOne ds (stateOf (l .st)) (subobjectAt s (l .at)) (M.areaNext (subobjectsLeft s (l .at + lengthAt s (l .at)))) =
+    let on : M.good (stateOf (c .before .before .before .read-item .result .state)) ≡ M.readOne R (stateOf (l .st)) (subobjectAt s (l .at)) (M.areaNext (subobjectsLeft s (l .at + lengthAt s (l .at)))) =
     sym (ap (λ (v : Verdict). provided v (M.good (stateOf (c .before .before .before .read-item .result .state)))) (c .before .enum-told .given .1)) ∙ stepped (c .before .before .before) in (
       inside,
       (c .before .before .before .read-item .ensures) .sound,
-      subst (λ (n : ℕ). formLeft Include s n ≡ Pass) (sym (is .next)) (right-next Include s (l .at) (c .before .before .before .before .before .before .loop-test .taken) (l .inv .2)),
-      subst (λ (n : ℕ). M.readAll ds (subobjectsLeft s n) (stateOf (c .before .before .before .read-item .result .state)) ≡ M.readAll ds (subobjectsLeft s 0) (stateOf (c .before .before .before .before .before .before .before .before .start .result))) (sym (is .next))
-          (sym (read-passed ds s (l .at) (stateOf (l .st)) (c .before .before .before .before .before .before .loop-test .taken) (l .inv .2) _ on) ∙ l .inv .3),
+      subst (λ (n : ℕ). formLeft Include s n ≡ Pass) (sym (is .next)) (right-next Include s (length s) (l .at) (c .before .before .before .before .before .before .loop-test .taken) (l .inv .2)),
+      subst (λ (n : ℕ). M.readAll R (subobjectsLeft s n) (stateOf (c .before .before .before .read-item .result .state)) ≡ M.readAll R (subobjectsLeft s 0) (stateOf (c .before .before .before .before .before .before .before .before .start .result))) (sym (is .next))
+          (sym (read-passed R s (l .at) (stateOf (l .st)) (c .before .before .before .before .before .before .loop-test .taken) (l .inv .2) _ on) ∙ l .inv .3),
     )
 
 finished-requires : tie.Need-finished-requires Inv-loop μ-loop
@@ -134,7 +136,7 @@ returns-2 c =
     let a = c .before .before .before .before .before .before .args in
     let l = c .before .before .loop in
     subst (MeaningIs (c .finished .result))
-    (read-end (domains (a .profile .now)) (a .list .now) (l .at) (stateOf (l .st)) (c .before .loop-test .left) ∙ meant (c .before .before))
+    (read-end (readingInput (a .profile .now)) (a .list .now) (l .at) (stateOf (l .st)) (c .before .loop-test .left) ∙ meant (c .before .before))
     (c .finished .ensures)
 
 pub read-list-spec : {M : Type 1} → statement M

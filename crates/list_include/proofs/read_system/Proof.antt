@@ -1,7 +1,7 @@
 -- `list_include::read_system` meets its contract: followed by an area the AS only becomes current, else what was found is named.
 use mathlib.Core.Path.{sym, ap, subst, _∙_}
-use Rattle.model.specs.Profile.{domains}
 use Rattle.model.specs.Sequence as M
+use Rattle.model.specs.Request.{readingInput}
 use Rattle.list_include.specs.Reading.{stateOf, ReadStepIs, nameFound}
 use Rattle.list_include.proofs.States.{stepped-on, named-found}
 use borrow.Author.Needs.{needs}
@@ -14,7 +14,7 @@ with-asn-requires c κs = search needs
 returns : tie.Need-returns
 returns c =
     let a = c .before .before .before .args in
-    stepped-on _ _ _ (c .before .with-asn .ensures) (ap (M.readSystem (domains (a .profile .now)) (a .at) (stateOf (a .st)) (a .asn)) (c .if1 .taken))
+    stepped-on _ _ _ (c .before .with-asn .ensures) (ap (M.readSystem (readingInput (a .profile .now)) (a .at) (stateOf (a .st)) (a .asn)) (c .if1 .taken))
 
 of-system-requires : tie.Need-of-system-requires
 of-system-requires c κs = search needs
@@ -25,13 +25,13 @@ name-found-requires c κs = search needs
 returns-2 : tie.Need-returns-2
 returns-2 c =
     let a = c .before .before .before .before .before .args in
-    let ds = domains (a .profile .now) in
+    let R = readingInput (a .profile .now) in
     let next = M.withSystem (stateOf (a .st)) (a .asn) in
     subst (ReadStepIs (c .name-found .result))
     (ap (λ (x : M.State). nameFound (a .at) x (c .before .of-system .result)) ((c .before .before .before .with-asn .ensures) .means)
     ∙ ap (nameFound (a .at) next) (c .before .of-system .ensures)
-    ∙ sym (named-found (a .at) next (M.ofSystem ds (a .asn)))
-    ∙ sym (ap (M.readSystem ds (a .at) (stateOf (a .st)) (a .asn)) (c .before .before .if1 .left)))
+    ∙ sym (named-found (a .at) next (M.ofSystem (R .domains) (a .asn)))
+    ∙ sym (ap (M.readSystem R (a .at) (stateOf (a .st)) (a .asn)) (c .before .before .if1 .left)))
     (c .name-found .ensures)
 
 pub read-system-spec : {M : Type 1} → statement M

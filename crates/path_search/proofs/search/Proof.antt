@@ -1,7 +1,7 @@
 -- `path_search::search` meets its contract: the tree is worked out in the round that applies, the bound asked of the source's number, and what is found above the given
 -- list written.
 use mathlib.Core.Path.{_≡_, refl, sym, _∙_}
-use mathlib.Core.Bool.{true, true≢false}
+use mathlib.Core.Bool.{true≢false}
 use Prim.Native.Nat.{ℕ, _<_}
 use native.Mathlib.Omega.{arith}
 use borrow.Author.Needs.{needs}
@@ -31,7 +31,7 @@ ready : (c : tie.After-settle) → Ready (layoutOf (c .before .before .before .b
 ready c =
     let start = c .before .before .before .before .before .before .before .before .before in
     let a = start .args in
-    ready-settled (layoutOf (a .layout)) (a .s .now) (a .exclude .now) (a .q) _ _ _ _ _ _ (c .settle .ensures) (start .pre .0 .2)
+    ready-settled (layoutOf (a .layout)) (a .s .now) (a .exclude .now) (a .q) _ _ _ _ _ _ (c .settle .ensures) (start .pre .0 .1)
 
 -- the profile is bytes
 bytes : (c : tie.After-settle) (i : ℕ) → getD (c .before .before .before .before .before .before .before .before .before .args .s .now) i 0 < 256
@@ -45,7 +45,7 @@ worked
 worked c =
     let start = c .before .before .before .before .before .before .before .before .before in
     let a = start .args in
-    worked-for (layoutOf (a .layout)) (a .s .now) (a .exclude .now) (settled c) _ _ _ _ _ _ (start .pre .0 .0) (start .pre .0 .1) (bytes c) (ready c) (c .settle .ensures .worked)
+    worked-for (layoutOf (a .layout)) (a .s .now) (a .exclude .now) (settled c) _ _ _ _ _ _ (start .pre .0 .0) (bytes c) (ready c) (c .settle .ensures .worked)
 
 here-is
     : (c : tie.After-settle)
@@ -53,7 +53,7 @@ here-is
 here-is c =
     let start = c .before .before .before .before .before .before .before .before .before in
     let a = start .args in
-    source-number (layoutOf (a .layout)) (a .s .now) (a .exclude .now) (settled c) (start .pre .0 .1) (ready c) _ (c .settle .ensures .worked .codes-are)
+    source-number (layoutOf (a .layout)) (a .s .now) (a .exclude .now) (settled c) (start .pre .0 .0 .cheap) (ready c) _ (c .settle .ensures .worked .codes-are)
 
 admissible-requires : tie.Need-admissible-requires
 admissible-requires c κs = ready (c .before .before) .bound-right
@@ -68,7 +68,7 @@ returns c =
       there = λ e. absurd (true≢false (sym e));
       missing =
           λ e.
-          sought-none (layoutOf (a .layout)) (a .s .now) (a .exclude .now) (settled at) (start .pre .0 .1) (bytes at) (ready at) _ (here-is at) (a .given .now)
+          sought-none (layoutOf (a .layout)) (a .s .now) (a .exclude .now) (settled at) (start .pre .0 .0 .cheap) (bytes at) (ready at) _ (here-is at) (a .given .now)
           (sym (c .before .admissible .ensures) ∙ not-true (c .before .admissible .result) (c .if1 .taken));
       cells = refl;
     })
@@ -83,12 +83,12 @@ above-requires c κs =
     let pre = start .pre in
     let at = c .before .before .before .before .before .before .before .before .before .before in
     let kept = sym (c .before .before .before .before .before .before .before .admissible .ensures) ∙ not-false (c .before .before .before .before .before .before .before .admissible .result) (c .before .before .before .before .before .before .if1 .left) in
-    let way = some-way (layoutOf (a .layout)) (a .s .now) (a .exclude .now) (settled at) (pre .0 .1) (bytes at) (ready at) _ (here-is at) (a .given .now) kept in (
+    let way = some-way (layoutOf (a .layout)) (a .s .now) (a .exclude .now) (settled at) (pre .0 .0 .cheap) (bytes at) (ready at) _ (here-is at) (a .given .now) kept in (
       (omega (arith, ready at .most), fits-settled (layoutOf (a .layout)) (a .s .now) (a .exclude .now) (a .q) _ _ _ _ _ _ (at .settle .ensures) (a .given .now) (pre .1)),
       record {
         search = searchFor (layoutOf (a .layout)) (a .s .now) (a .exclude .now) (settled at);
         worked = worked at;
-        stands = stands (layoutOf (a .layout)) (a .s .now) (a .exclude .now) (settled at) (pre .0 .1) (bytes at) (ready at) _ (here-is at) way;
+        stands = stands (layoutOf (a .layout)) (a .s .now) (a .exclude .now) (settled at) (pre .0 .0 .cheap) (bytes at) (ready at) _ (here-is at) way;
       },
     )
 
@@ -99,11 +99,11 @@ returns-2 c =
     let pre = start .pre in
     let at = c .before .before .before .before .before .before .before .before .before .before .before .before in
     let kept = sym (c .before .before .before .before .before .before .before .before .before .admissible .ensures) ∙ not-false (c .before .before .before .before .before .before .before .before .before .admissible .result) (c .before .before .before .before .before .before .before .before .if1 .left) in
-    let way = some-way (layoutOf (a .layout)) (a .s .now) (a .exclude .now) (settled at) (pre .0 .1) (bytes at) (ready at) _ (here-is at) (a .given .now) kept in
+    let way = some-way (layoutOf (a .layout)) (a .s .now) (a .exclude .now) (settled at) (pre .0 .0 .cheap) (bytes at) (ready at) _ (here-is at) (a .given .now) kept in
     sought-for (layoutOf (a .layout)) (a .s .now) (a .exclude .now) (a .q) _ _ _ _ _ _ (at .settle .ensures) (a .given .now) _ refl
-    (sought (layoutOf (a .layout)) (a .s .now) (a .exclude .now) (settled at) (pre .0 .1) (bytes at) (ready at) _ (here-is at) (a .given .now) kept _ _ _ refl
+    (sought (layoutOf (a .layout)) (a .s .now) (a .exclude .now) (settled at) (pre .0 .0 .cheap) (bytes at) (ready at) _ (here-is at) (a .given .now) kept _ _ _ refl
     (c .before .above .ensures (searchFor (layoutOf (a .layout)) (a .s .now) (a .exclude .now) (settled at)) (worked at)
-    (stands (layoutOf (a .layout)) (a .s .now) (a .exclude .now) (settled at) (pre .0 .1) (bytes at) (ready at) _ (here-is at) way)))
+    (stands (layoutOf (a .layout)) (a .s .now) (a .exclude .now) (settled at) (pre .0 .0 .cheap) (bytes at) (ready at) _ (here-is at) way)))
 
 pub search-spec : {M : Type 1} → statement M
 search-spec =

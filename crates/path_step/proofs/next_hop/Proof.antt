@@ -48,7 +48,7 @@ tail-range-requires c κs =
     let start = c .before .before .before .before .before .before in
     let a = start .args in
     let ways = start .pre .1 in (
-      (ways .worked .sound, ways .worked .profile-right),
+      ways .worked .right,
       subst
           (λ (d : DomainIndex). PairRange (layoutOf (a .layout)) (a .s .now) (queryDomain (a .q) (a .i)) (d .0) (getD (a .firsts .now) (a .i) 0) (getD (a .lasts .now) (a .i) 0))
           (sym (c .before .before .next-domain .ensures))
@@ -79,7 +79,7 @@ scan-requires c κs =
     let a = start .args in
     let ways = start .pre .1 in
     let range = c .before .before .before .before .tail-range .ensures in (
-      (ways .worked .sound, ways .worked .cheap, ways .worked .profile-right),
+      ways .worked .right,
       (
         (range .order, range .within, ways .worked .bandwidth-right, ways .stands .reached),
         subst₂ (λ (m n : ℕ). NextPlace (a .addresses .now) (a .reaches .now) (getD (a .starts .now) m 0) (getD (a .starts .now) n 0))

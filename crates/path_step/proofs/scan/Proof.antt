@@ -15,7 +15,6 @@ use Rattle.laws.proofs.BigEndian.{number-bound}
 use Rattle.laws.proofs.Tests.{clash}
 use Rattle.profile_records.specs.Layout.{layoutOf}
 use Rattle.tree_reaches.specs.Reaches.{beside}
-use Rattle.tree_reaches.proofs.Hops.{within, numeric, ranged, costs}
 use Rattle.path_step.specs.Onward.{isTaken}
 use Rattle.path_step.proofs.Turns.{first-here, first-later, first-of-none}
 use Rattle.path_step.proofs.scan.Statement.{statement}
@@ -37,25 +36,14 @@ loop-holds c = (omega arith, refl)
 inside : (c : tie.In-loop Inv-loop μ-loop) → c .before .loop .i < hopCount (c .before .before .before .before .before .args .s .now)
 inside c = omega arith
 
-hop-at-requires : tie.Need-hop-at-requires Inv-loop μ-loop
-hop-at-requires c κs =
-    let start = c .before .before .before .before .before in
-    let L = layoutOf (start .args .layout) in
-    let s = start .args .s .now in
-    let right = start .pre .0 .2 in
-    (within L s right (start .pre .0 .0) (c .before .loop .i) (inside c), numeric L s right (c .before .loop .i) (inside c))
+accepted-hop-requires : tie.Need-accepted-hop-requires Inv-loop μ-loop
+accepted-hop-requires c κs = (c .before .before .before .before .before .pre .0, inside c)
 
 tried-requires : tie.Need-tried-requires Inv-loop μ-loop
 tried-requires c κs =
-    let start = c .before .before .before .before .before .before in
-    let L = layoutOf (start .args .layout) in
-    let s = start .args .s .now in
-    let right = start .pre .0 .2 in
-    let i = c .before .before .loop .i in
-    let is = c .hop-at .ensures in
-    let cost = costs L s right i (inside (c .before)) in
-    let e = ap (λ (x : Hop). x .cost) is in
-    ((omega arith, start .pre .1 .0 .2, rw is (ranged L s right i (inside (c .before))), start .pre .1 .0 .3), start .pre .1 .1)
+    let pre = c .before .before .before .before .before .before .pre in
+    let hop = c .accepted-hop .ensures in
+    ((hop .cheap, pre .1 .0 .2, hop .ranged, pre .1 .0 .3), pre .1 .1)
 
 -- the test of the scan
 abbrev passes : tie.Start Inv-loop μ-loop → Hop → Bool
@@ -70,7 +58,7 @@ looked
     c .tried .result .found ≡ passes start (hopAt (layoutOf (start .args .layout)) (start .args .s .now) (c .before .before .before .loop .i)))
 looked c =
     let start = c .before .before .before .before .before .before .before in
-    c .tried .ensures .0 ∙ ap (passes start) (c .before .hop-at .ensures)
+    c .tried .ensures .0 ∙ ap (passes start) (c .before .accepted-hop .ensures .is)
 
 returns : tie.Need-returns Inv-loop μ-loop
 returns c =
@@ -78,7 +66,7 @@ returns c =
     let a = start .args in
     let l = c .before .before .before .before .loop in
     let t = c .before .tried .ensures .1 (c .if1 .taken) in
-    let is = c .before .before .hop-at .ensures in
+    let is = c .before .before .accepted-hop .ensures .is in
     record {
       there =
           λ e. (
@@ -135,4 +123,4 @@ returns-2 c =
 
 pub scan-spec : {M : Type 1} → statement M
 scan-spec =
-    tie.close (tie.spec Inv-loop μ-loop loop-holds hop-at-requires tried-requires returns add-i loop-less loop-again nowhere-requires returns-2)
+    tie.close (tie.spec Inv-loop μ-loop loop-holds accepted-hop-requires tried-requires returns add-i loop-less loop-again nowhere-requires returns-2)

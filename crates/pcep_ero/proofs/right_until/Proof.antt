@@ -1,10 +1,10 @@
 -- `pcep_ero::right_until` meets its contract. The loop's invariant: what is left decides. The measure is what is left.
 use Prim.Native.Nat.{_-_}
-use mathlib.Core.Path.{sym, _∙_}
+use mathlib.Core.Path.{refl, sym, _∙_}
 use native.Mathlib.Omega.{arith}
 use lib.ListN.{length}
 use Rattle.pcep_ero.specs.Left.{LeftDecides}
-use Rattle.pcep_ero.proofs.Addresses.{eight, verdict-whole, verdict-next}
+use Rattle.pcep_ero.proofs.Addresses.{eight, verdict-next}
 use Rattle.pcep_ero.proofs.right_until.Statement.{statement}
 use Rattle.pcep_ero.proofs.right_until.Tie as tie
 
@@ -15,7 +15,7 @@ abbrev μ-loop : tie.MeasureT-loop
 μ-loop body at₀ at = length body - at
 
 loop-holds : tie.Need-loop-holds Inv-loop μ-loop
-loop-holds c = record { reached = omega arith; decides = verdict-whole (c .before .args .body .now) }
+loop-holds c = record { reached = omega arith; decides = refl }
 
 sub-loop : tie.Need-sub-loop Inv-loop μ-loop
 sub-loop c = c .loop .inv .reached

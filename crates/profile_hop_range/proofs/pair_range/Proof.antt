@@ -19,7 +19,7 @@ use Rattle.profile_hop_range.proofs.pair_range.Tie as tie
 hop-count-requires : tie.Need-hop-count-requires
 hop-count-requires c κs =
     let a = c .before .args in
-    file-length (layoutOf (a .layout)) (now (a .s)) (c .before .pre .1) .0
+    file-length (layoutOf (a .layout)) (now (a .s)) (c .before .pre .passed) .0
 
 cast-hops : tie.Need-cast-hops
 cast-hops c = search needs

@@ -25,7 +25,7 @@ returns c =
     let w = (buildTree (requestOf (a .profile .now) (a .ingress .0) (a .source .0) (a .destination .0) (a .include .now) (a .exclude .now) (a .limits)) (a .room)) .written in
     let solved = c .before .before .before .before .solve in
     let r = solved .result in
-    let l = solved .last .1 .1 .1 .1 .1 .1 .1 .1 in
+    let l = solved .last .1 .1 .1 .1 .1 in
     let is = solved .ensures in
     record {
       numbers = is .numbers;

@@ -2,12 +2,12 @@
 use mathlib.Core.Path.{sym, subst}
 use borrow.Author.Needs.{needs}
 use Rattle.model.specs.declared.TreeEntry.{TreeEntry}
-use Rattle.model.specs.Profile.{version1}
+use Rattle.model.specs.Profile.{layoutIn}
 use Rattle.model.specs.Request.{Request}
 use Rattle.model.specs.Answers.{refused4}
 use Rattle.model.specs.Calls.{Outcome, nothing}
 use Rattle.request.specs.Query.{queryStops, searchFor, inRound, roundFor}
-use Rattle.request.specs.CheckedRequest.{requestOf}
+use Rattle.request.specs.CheckedRequest.{requestFor}
 use Rattle.request.proofs.Requests.{refused-request, accepted-request, round-request, search-request}
 use Rattle.tree_fields.specs.declared.TreeResult.{TreeResult}
 use Rattle.tree_fields.specs.TreeResult.{TreeResultIs}
@@ -16,7 +16,7 @@ use Rattle.tree_fields.proofs.solve.Statement.{statement}
 use Rattle.tree_fields.proofs.solve.Tie as tie
 
 abbrev request : tie.Start → Request
-request c = requestOf (c .args .profile .now) (c .args .ingress .0) (c .args .source .0) (c .args .destination .0) (c .args .include .now) (c .args .exclude .now) (c .args .limits)
+request c = requestFor (c .args .profile .now) (c .args .asked) (c .args .include .now) (c .args .exclude .now)
 
 check-request-requires : tie.Need-check-request-requires
 check-request-requires c κs = search needs
@@ -33,7 +33,7 @@ returns c =
     let a = start .args in
     let is = c .before .before .before .before .check-request .ensures in
     let r = c .before .before .verdict .given .0 .0 in
-    let why = refused-request (a .profile .now) (a .ingress) (a .source) (a .destination) (a .include .now) (a .exclude .now) (a .limits) (c .before .before .before .before .check-request .result) is r (c .before .before .verdict .given .1) in
+    let why = refused-request (a .profile .now) (a .asked) (a .include .now) (a .exclude .now) (c .before .before .before .before .check-request .result) is r (c .before .before .verdict .given .1) in
     subst (λ (o : Outcome TreeEntry). TreeResultIs o (a .room) (a .addresses .now) (a .reaches .now) (a .starts .now) (c .refused .result)) (sym (tree-refused (request start) (a .room) r why))
     (subst (λ (x : TreeResult). TreeResultIs (nothing (refused4 r)) (a .room) (a .addresses .now) (a .reaches .now) (a .starts .now) x) (sym (c .refused .ensures))
     (refused-outcome r (a .room) (a .addresses .now) (a .reaches .now) (a .starts .now)))
@@ -56,11 +56,11 @@ returns-2 c =
     let l = c .solve-query .last .1 .1 .1 .1 in
     subst (λ (o : Outcome TreeEntry). TreeResultIs o (a .room) (l .0) (l .1 .0) (l .1 .1 .0) (c .solve-query .result))
     (sym
-    (tree-accepted (request start) (a .room) (queryStops (r .query)) (roundFor version1 (a .profile .now) (a .exclude .now) (r .query))
-    (searchFor version1 (a .profile .now) (a .exclude .now) (inRound (roundFor version1 (a .profile .now) (a .exclude .now) (r .query)) (r .query)))
-    (accepted-request (a .profile .now) (a .ingress) (a .source) (a .destination) (a .include .now) (a .exclude .now) (a .limits) r is passes)
-    (round-request (a .profile .now) (a .ingress) (a .source) (a .destination) (a .include .now) (a .exclude .now) (a .limits) r is)
-    (search-request (a .profile .now) (a .ingress) (a .source) (a .destination) (a .include .now) (a .exclude .now) (a .limits) r is)))
+    (tree-accepted (request start) (a .room) (queryStops (r .query)) (roundFor (layoutIn (a .profile .now)) (a .profile .now) (a .exclude .now) (r .query))
+    (searchFor (layoutIn (a .profile .now)) (a .profile .now) (a .exclude .now) (inRound (roundFor (layoutIn (a .profile .now)) (a .profile .now) (a .exclude .now) (r .query)) (r .query)))
+    (accepted-request (a .profile .now) (a .asked) (a .include .now) (a .exclude .now) r is passes)
+    (round-request (a .profile .now) (a .asked) (a .include .now) (a .exclude .now) r is)
+    (search-request (a .profile .now) (a .asked) (a .include .now) (a .exclude .now) r is)))
     (c .solve-query .ensures)
 
 pub solve-spec : {M : Type 1} → statement M

@@ -1,10 +1,11 @@
--- `tree_fields::solve_query` meets its contract: the tree is worked out for the first version's layout in the round that applies, and its entries are those of `tree`.
+-- `tree_fields::solve_query` meets its contract: the tree is worked out for the layout that the profile says, in the round that applies, and its entries are those of `tree`.
 use mathlib.Core.Path.{refl, sym, subst}
 use Prim.Native.Nat.{_≤_}
 use native.Mathlib.Omega.{arith}
 use borrow.Author.Needs.{needs}
-use Rattle.model.specs.Profile.{Layout, version1, costLimit}
+use Rattle.model.specs.Profile.{Layout, layoutIn}
 use Rattle.profile_records.specs.Layout.{SoundLayout}
+use Rattle.profile_records.proofs.Layouts.{layout-sound}
 use Rattle.request.specs.Query.{Ready}
 use Rattle.tree_rounds.specs.ChosenRound.{ChosenRoundIs}
 use Rattle.tree_fields.specs.declared.TreeResult.{TreeResult}
@@ -13,29 +14,29 @@ use Rattle.tree_fields.proofs.Outcomes.{places-few, count-small, tally-
 use Rattle.tree_fields.proofs.solve_query.Statement.{statement}
 use Rattle.tree_fields.proofs.solve_query.Tie as tie
 
-first-version-requires : tie.Need-first-version-requires
-first-version-requires c κs = search needs
+layout-in-requires : tie.Need-layout-in-requires
+layout-in-requires c κs = search needs
 
 settle-requires : tie.Need-settle-requires
 settle-requires c κs =
     let start = c .before .before .before .before .before .before .before .before in
     let a = start .args in (
-      subst (λ (L : Layout). SoundLayout L × (L .mostCost ≤ costLimit) × Ready L (a .profile .now) (a .exclude .now) (a .q)) (sym (c .before .before .before .before .before .first-version .ensures))
-          (record { fields = omega arith; cost = omega arith; small = omega arith }, omega arith, start .pre .0),
+      subst (λ (L : Layout). SoundLayout L × Ready L (a .profile .now) (a .exclude .now) (a .q)) (sym (c .before .before .before .before .before .layout-in .ensures))
+          (layout-sound (a .profile .now), start .pre .0),
       (record { for-addresses = start .pre .1 .0; for-starts = start .pre .1 .2; for-firsts = refl; for-lasts = refl }, start .pre .1 .1),
     )
 
--- what was settled, for the first version
+-- what was settled, for the layout that the profile says
 settled
     : (c : tie.After-settle)
-    → ChosenRoundIs version1 (c .before .before .before .before .before .before .before .before .before .args .profile .now) (c .before .before .before .before .before .before .before .before .before .args .exclude .now) (c .before .before .before .before .before .before .before .before .before .args .q)
+    → ChosenRoundIs (layoutIn (c .before .before .before .before .before .before .before .before .before .args .profile .now)) (c .before .before .before .before .before .before .before .before .before .args .profile .now) (c .before .before .before .before .before .before .before .before .before .args .exclude .now) (c .before .before .before .before .before .before .before .before .before .args .q)
     (c .settle .last .1 .1 .1 .1 .0) (c .settle .last .1 .1 .1 .1 .1 .0) (c .settle .last .1 .1 .1 .1 .1 .1 .0) (c .settle .last .1 .1 .1 .1 .1 .1 .1 .0) (c .settle .last .1 .1 .1 .1 .1 .1 .1 .1 .0)
     (c .settle .result)
 settled c =
     let a = c .before .before .before .before .before .before .before .before .before .args in
     let l = c .settle .last .1 .1 .1 .1 in
     subst (λ (L : Layout). ChosenRoundIs L (a .profile .now) (a .exclude .now) (a .q) (l .0) (l .1 .0) (l .1 .1 .0) (l .1 .1 .1 .0) (l .1 .1 .1 .1 .0) (c .settle .result))
-    (c .before .before .before .before .before .before .first-version .ensures)
+    (c .before .before .before .before .before .before .layout-in .ensures)
     (c .settle .ensures)
 
 -- there are at most 16 places
@@ -88,7 +89,7 @@ pub solve-query-spec : {M : Type 1} → statement M
 solve-query-spec =
     tie.close
     (tie.spec
-    first-version-requires
+    layout-in-requires
     settle-requires
     mul-count
     element-copy-out-count

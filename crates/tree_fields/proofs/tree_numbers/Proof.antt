@@ -6,7 +6,7 @@ use borrow.Author.Needs.{needs}
 use lib.ListN.{length}
 use Rattle.model.specs.Request.{Request}
 use Rattle.model.specs.Calls.{buildTree}
-use Rattle.request.specs.CheckedRequest.{requestOf}
+use Rattle.request.specs.CheckedRequest.{requestFor}
 use Rattle.buffers.specs.Capacity.{least4}
 use Rattle.tree_fields.specs.TreeResult.{TreeResultIs}
 use Rattle.tree_fields.proofs.Over.{places-within, levels-over, addresses-over, marks-over, costs-over}
@@ -14,7 +14,7 @@ use Rattle.tree_fields.proofs.tree_numbers.Statement.{statement}
 use Rattle.tree_fields.proofs.tree_numbers.Tie as tie
 
 abbrev request : tie.Start → Request
-request c = requestOf (c .args .profile .now) (c .args .ingress .0) (c .args .source .0) (c .args .destination .0) (c .args .include .now) (c .args .exclude .now) (c .args .limits)
+request c = requestFor (c .args .profile .now) (c .args .asked) (c .args .include .now) (c .args .exclude .now)
 
 abbrev room : tie.Start → ℕ
 room c = least4 (c .args .level .now) (c .args .address .now) (c .args .reachable .now) (c .args .cost .now)
@@ -22,10 +22,10 @@ room c = least4 (c .args .level .now) (c .args .address .now) (c .args .reachabl
 -- what is solved, for the capacity of the four buffers
 solved
     : (c : tie.After-solve)
-    → TreeResultIs (buildTree (request (c .before .before .before .before .before .before .before .before .before .before .before .before .before .before)) (room (c .before .before .before .before .before .before .before .before .before .before .before .before .before .before))) (room (c .before .before .before .before .before .before .before .before .before .before .before .before .before .before)) (c .solve .last .1 .1 .1 .1 .1 .1 .1 .1 .0) (c .solve .last .1 .1 .1 .1 .1 .1 .1 .1 .1 .0) (c .solve .last .1 .1 .1 .1 .1 .1 .1 .1 .1 .1 .0) (c .solve .result)
+    → TreeResultIs (buildTree (request (c .before .before .before .before .before .before .before .before .before .before .before .before .before .before)) (room (c .before .before .before .before .before .before .before .before .before .before .before .before .before .before))) (room (c .before .before .before .before .before .before .before .before .before .before .before .before .before .before)) (c .solve .last .1 .1 .1 .1 .1 .0) (c .solve .last .1 .1 .1 .1 .1 .1 .0) (c .solve .last .1 .1 .1 .1 .1 .1 .1 .0) (c .solve .result)
 solved c =
     let start = c .before .before .before .before .before .before .before .before .before .before .before .before .before .before in
-    let l = c .solve .last .1 .1 .1 .1 .1 .1 .1 .1 in
+    let l = c .solve .last .1 .1 .1 .1 .1 in
     subst (λ (n : ℕ). TreeResultIs (buildTree (request start) n) n (l .0) (l .1 .0) (l .1 .1 .0) (c .solve .result))
     (c .before .before .before .before .lesser3 .ensures ∙ ap₂ min (c .before .before .before .before .before .before .lesser .ensures) (c .before .before .before .before .before .lesser2 .ensures))
     (c .solve .ensures)
@@ -75,7 +75,7 @@ returns c =
     let a = c .before .before .before .before .before .before .before .before .before .before .before .before .before .before .before .before .before .before .before .before .before .before .before .before .before .before .before .before .before .before .before .before .before .before .args in
     let w = (buildTree (request (c .before .before .before .before .before .before .before .before .before .before .before .before .before .before .before .before .before .before .before .before .before .before .before .before .before .before .before .before .before .before .before .before .before .before)) (room (c .before .before .before .before .before .before .before .before .before .before .before .before .before .before .before .before .before .before .before .before .before .before .before .before .before .before .before .before .before .before .before .before .before .before))) .written in
     let r = c .before .before .before .before .before .before .before .before .before .before .before .before .before .before .before .before .before .before .before .before .solve .result in
-    let l = c .before .before .before .before .before .before .before .before .before .before .before .before .before .before .before .before .before .before .before .before .solve .last .1 .1 .1 .1 .1 .1 .1 .1 in
+    let l = c .before .before .before .before .before .before .before .before .before .before .before .before .before .before .before .before .before .before .before .before .solve .last .1 .1 .1 .1 .1 in
     let is = solved (c .before .before .before .before .before .before .before .before .before .before .before .before .before .before .before .before .before .before .before .before) in
     let h = is .held in
     record {

@@ -97,7 +97,7 @@ collect-requires c κs =
     let leg = c .before .before .note-leg in
     let range = leg .ensures .range in
     let few =
-    few-heads (layoutOf (a .layout)) (now (a .s)) (a .t3) (a .count) (l .i) (l .i + 1) (leg .result .first) (leg .result .last) (p .0 .1) (p .1 .0) (add-one (l .i))
+    few-heads (layoutOf (a .layout)) (now (a .s)) (a .t3) (a .count) (l .i) (l .i + 1) (leg .result .first) (leg .result .last) (p .0 .passed) (p .1 .0) (add-one (l .i))
     (omega arith) range in
     (p .0, ((range .order, range .within, few), (omega arith, l .inv .3 .for-addresses)))
 
@@ -126,7 +126,7 @@ loop-again c =
     let L = layoutOf (a .layout) in
     let file = now (a .s) in
     let few =
-    few-heads L file (a .t3) (a .count) (l .i) (l .i + 1) (leg .result .first) (leg .result .last) (p .0 .1) (p .1 .0) (add-one (l .i)) (omega arith) range in (
+    few-heads L file (a .t3) (a .count) (l .i) (l .i + 1) (leg .result .first) (leg .result .last) (p .0 .passed) (p .1 .0) (add-one (l .i)) (omega arith) range in (
       omega arith,
       omega (arith, c .collect .ensures .0),
       omega (arith, few-hops (c .before .before .before .before .before .before .before .before .before .before), range .within, c .before .before .tallied .ensures),
@@ -187,7 +187,7 @@ returns c =
     let from-first : Covers S (layoutOf (a .layout)) (now (a .s)) (a .t3) (a .count) (getD (set (now (a .addresses)) 0 (a .source .0)) 0 0) (a .destination .0) =
     rw (getD-set-same (now (a .addresses)) 0 (a .source .0) 0 (omega (arith, p .1 .1 .for-addresses))) covers in
     last-filled S (layoutOf (a .layout)) (now (a .s)) (a .t3) (a .count) _ _ (p .1 .0) covers (l .addresses) (l .starts) (l .firsts) (l .lasts) (l .end) (l .examined)
-    (l .i) (l .i + 2) _ _ (leg .result .first) (leg .result .last) (c .tallied2 .result) (l .inv .4 S from-first) (l .inv .3) (p .0 .1) (omega arith) (omega arith) (omega arith)
+    (l .i) (l .i + 2) _ _ (leg .result .first) (leg .result .last) (c .tallied2 .result) (l .inv .4 S from-first) (l .inv .3) (p .0 .passed) (omega arith) (omega arith) (omega arith)
     (leg .ensures) (c .tallied2 .ensures)
 
 pub lay-out-spec : {M : Type 1} → statement M

@@ -11,7 +11,7 @@ use Rattle.laws.specs.Reach.{Reach, unreached, better, bestFrom}
 use Rattle.profile_records.specs.Layout.{layoutOf}
 use Rattle.tree_reaches.specs.Reaches.{reachOf, wayOn}
 use Rattle.tree_reaches.proofs.Codes.{reach-none}
-use Rattle.tree_reaches.proofs.Hops.{within, numeric, ranged, costs, slice-more, best-more}
+use Rattle.tree_reaches.proofs.Hops.{slice-more, best-more}
 use Rattle.tree_reaches.proofs.best_from.Statement.{statement}
 use Rattle.tree_reaches.proofs.best_from.Tie as tie
 
@@ -36,26 +36,14 @@ loop-holds c =
           (slice-empty (a .first) (hops (layoutOf (a .layout)) (a .s .now)))),
     )
 
-hop-at-requires : tie.Need-hop-at-requires Inv-loop μ-loop
-hop-at-requires c κs =
-    let start = c .before .before .before .before .before in
-    let a = start .args in
-    let L = layoutOf (a .layout) in
-    let i = c .before .loop .i in
-    let h : i < hopCount (a .s .now) = omega arith in
-    (within L (a .s .now) (start .pre .0 .2) (start .pre .0 .0) i h, numeric L (a .s .now) (start .pre .0 .2) i h)
+accepted-hop-requires : tie.Need-accepted-hop-requires Inv-loop μ-loop
+accepted-hop-requires c κs = (c .before .before .before .before .before .pre .0, omega arith)
 
 taken-requires : tie.Need-taken-requires Inv-loop μ-loop
 taken-requires c κs =
-    let start = c .before .before .before .before .before .before in
-    let a = start .args in
-    let L = layoutOf (a .layout) in
-    let i = c .before .before .loop .i in
-    let h : i < hopCount (a .s .now) = omega arith in
-    let is = c .hop-at .ensures in
-    let cost = costs L (a .s .now) (start .pre .0 .2) i h in
-    let e = ap (λ (x : Hop). x .cost) is in
-    ((omega arith, start .pre .1 .0 .2, rw is (ranged L (a .s .now) (start .pre .0 .2) i h)), start .pre .1 .1)
+    let pre = c .before .before .before .before .before .before .pre in
+    let hop = c .accepted-hop .ensures in
+    ((hop .cheap, pre .1 .0 .2, hop .ranged), pre .1 .1)
 
 add-i : tie.Need-add-i Inv-loop μ-loop
 add-i c = omega arith
@@ -75,8 +63,8 @@ loop-again c =
       omega arith,
       omega arith,
       c .taken .ensures
-          ∙ ap (λ (x : Reach). better x (f (c .before .hop-at .result))) (l .inv .2)
-          ∙ ap (λ (x : Hop). better (bestFrom unreached f (slice (a .first) (l .i) (hops L s))) (f x)) (c .before .hop-at .ensures)
+          ∙ ap (λ (x : Reach). better x (f (c .before .accepted-hop .result))) (l .inv .2)
+          ∙ ap (λ (x : Hop). better (bestFrom unreached f (slice (a .first) (l .i) (hops L s))) (f x)) (c .before .accepted-hop .ensures .is)
           ∙ sym
           (ap (λ (n : ℕ). bestFrom unreached f (slice (a .first) n (hops L s))) (add-one (l .i))
           ∙ ap (bestFrom unreached f) (slice-more L s (a .first) (l .i) (l .inv .0) h)
@@ -95,4 +83,4 @@ returns c =
     e
 
 pub best-from-spec : {M : Type 1} → statement M
-best-from-spec = tie.close (tie.spec Inv-loop μ-loop loop-holds hop-at-requires taken-requires add-i loop-less loop-again returns)
+best-from-spec = tie.close (tie.spec Inv-loop μ-loop loop-holds accepted-hop-requires taken-requires add-i loop-less loop-again returns)

@@ -18,7 +18,7 @@ lay-out-requires c κs =
     let start = c .before .before .before .before .before .before .before .before .before .before in
     let a = start .args in
     let pre = start .pre in
-    ((pre .0 .0, pre .0 .2 .profile-right), (several (layoutOf (a .layout)) (a .s .now) (a .exclude .now) (a .q) (pre .0 .2), pre .1 .0))
+    (record { layout = pre .0 .0; passed = pre .0 .1 .profile-right }, (several (layoutOf (a .layout)) (a .s .now) (a .exclude .now) (a .q) (pre .0 .1), pre .1 .0))
 
 in-round-requires : tie.Need-in-round-requires
 in-round-requires c κs = search needs
@@ -30,8 +30,8 @@ fill-tree-requires c κs =
     let pre = start .pre in
     let lay = c .before .before .before .before .before .before .lay-out in
     let p = c .before .before .before .before .before .in-round in (
-      (pre .0 .0, pre .0 .1, ready-for (layoutOf (a .layout)) (a .s .now) (a .exclude .now) (a .q) (pre .0 .1) (pre .0 .2) _ _ _ _ _ (lay .ensures) First (p .result) (p .ensures)),
-      (laid-for (layoutOf (a .layout)) (a .s .now) (a .exclude .now) (a .q) (pre .0 .1) (pre .0 .2) _ _ _ _ _ (lay .ensures) First (p .result) (p .ensures), pre .1 .1),
+      (pre .0 .0, ready-for (layoutOf (a .layout)) (a .s .now) (a .exclude .now) (a .q) (pre .0 .0 .cheap) (pre .0 .1) _ _ _ _ _ (lay .ensures) First (p .result) (p .ensures)),
+      (laid-for (layoutOf (a .layout)) (a .s .now) (a .exclude .now) (a .q) (pre .0 .0 .cheap) (pre .0 .1) _ _ _ _ _ (lay .ensures) First (p .result) (p .ensures), pre .1 .1),
     )
 
 element-copy-out-needs-second : tie.Need-element-copy-out-needs-second
@@ -39,7 +39,7 @@ element-copy-out-needs-second c = search needs
 
 needs-second-requires : tie.Need-needs-second-requires
 needs-second-requires c κs =
-    let ready = c .before .before .before .before .before .before .before .before .before .before .before .before .before .before .before .before .before .before .before .pre .0 .2 in
+    let ready = c .before .before .before .before .before .before .before .before .before .before .before .before .before .before .before .before .before .before .before .pre .0 .1 in
     (ready .exclude-right, ready .bound-right)
 
 returns : tie.Need-returns
@@ -51,8 +51,8 @@ returns c =
     let p = c .before .before .before .before .before .before .before .before .before .in-round in
     let filled = c .before .before .before .fill-tree .ensures .0 in
     let no = not-true (c .before .needs-second .result) (c .if1 .taken) in
-    settled (layoutOf (a .layout)) (a .s .now) (a .exclude .now) (a .q) (pre .0 .1) (pre .0 .2) _ _ _ _ _ (lay .ensures) First (p .result) (p .ensures)
-    (round-is (layoutOf (a .layout)) (a .s .now) (a .exclude .now) (a .q) (pre .0 .1) (pre .0 .2) _ _ _ _ _ (lay .ensures) (p .result) (p .ensures) _ filled _ (c .before .needs-second .ensures) ∙ ap roundIf no) _ filled _ refl
+    settled (layoutOf (a .layout)) (a .s .now) (a .exclude .now) (a .q) (pre .0 .0 .cheap) (pre .0 .1) _ _ _ _ _ (lay .ensures) First (p .result) (p .ensures)
+    (round-is (layoutOf (a .layout)) (a .s .now) (a .exclude .now) (a .q) (pre .0 .0 .cheap) (pre .0 .1) _ _ _ _ _ (lay .ensures) (p .result) (p .ensures) _ filled _ (c .before .needs-second .ensures) ∙ ap roundIf no) _ filled _ refl
 
 in-round-requires-2 : tie.Need-in-round-requires-2
 in-round-requires-2 c κs = search needs
@@ -64,8 +64,8 @@ fill-tree-requires-2 c κs =
     let pre = start .pre in
     let lay = c .before .before .before .before .before .before .before .before .before .before .before .before .before .before .before .before .lay-out in
     let p = c .before .before .before .before .before .in-round2 in (
-      (pre .0 .0, pre .0 .1, ready-for (layoutOf (a .layout)) (a .s .now) (a .exclude .now) (a .q) (pre .0 .1) (pre .0 .2) _ _ _ _ _ (lay .ensures) Second (p .result) (p .ensures)),
-      (laid-for (layoutOf (a .layout)) (a .s .now) (a .exclude .now) (a .q) (pre .0 .1) (pre .0 .2) _ _ _ _ _ (lay .ensures) Second (p .result) (p .ensures), c .before .before .before .before .before .before .before .before .before .fill-tree .ensures .1),
+      (pre .0 .0, ready-for (layoutOf (a .layout)) (a .s .now) (a .exclude .now) (a .q) (pre .0 .0 .cheap) (pre .0 .1) _ _ _ _ _ (lay .ensures) Second (p .result) (p .ensures)),
+      (laid-for (layoutOf (a .layout)) (a .s .now) (a .exclude .now) (a .q) (pre .0 .0 .cheap) (pre .0 .1) _ _ _ _ _ (lay .ensures) Second (p .result) (p .ensures), c .before .before .before .before .before .before .before .before .before .fill-tree .ensures .1),
     )
 
 add-t38 : tie.Need-add-t38
@@ -74,7 +74,7 @@ add-t38 c =
     let a = start .args in
     let pre = start .pre in
     let lay = c .before .before .before .before .before .before .before .before .before .before .before .before .before .before .before .before .before .lay-out in
-    let most = examined-most (layoutOf (a .layout)) (a .s .now) (a .exclude .now) (a .q) (pre .0 .1) (pre .0 .2) _ _ _ _ _ (lay .ensures) in
+    let most = examined-most (layoutOf (a .layout)) (a .s .now) (a .exclude .now) (a .q) (pre .0 .0 .cheap) (pre .0 .1) _ _ _ _ _ (lay .ensures) in
     omega (arith, number-bound 2 (a .s .now) 8 (λ (k : ℕ). c .before .before .before .before .before .before .before .before .before .before .before .before .before .before .before .before .before .before .before .before .before .before .before .before .before .before .before .shared-slice-known .given k .fits))
 
 returns-2 : tie.Need-returns-2
@@ -86,8 +86,8 @@ returns-2 c =
     let p = c .before .before .before .before .before .before .before .before .before .before .before .before .before .before .before .before .in-round in
     let p2 = c .before .before .before .before .before .before .in-round2 in
     let yes = not-false (c .before .before .before .before .before .before .before .before .needs-second .result) (c .before .before .before .before .before .before .before .if1 .left) in
-    settled (layoutOf (a .layout)) (a .s .now) (a .exclude .now) (a .q) (pre .0 .1) (pre .0 .2) _ _ _ _ _ (lay .ensures) Second (p2 .result) (p2 .ensures)
-    (round-is (layoutOf (a .layout)) (a .s .now) (a .exclude .now) (a .q) (pre .0 .1) (pre .0 .2) _ _ _ _ _ (lay .ensures) (p .result) (p .ensures) _ (c .before .before .before .before .before .before .before .before .before .before .fill-tree .ensures .0) _ (c .before .before .before .before .before .before .before .before .needs-second .ensures) ∙ ap roundIf yes) _ (c .fill-tree2 .ensures .0) _ refl
+    settled (layoutOf (a .layout)) (a .s .now) (a .exclude .now) (a .q) (pre .0 .0 .cheap) (pre .0 .1) _ _ _ _ _ (lay .ensures) Second (p2 .result) (p2 .ensures)
+    (round-is (layoutOf (a .layout)) (a .s .now) (a .exclude .now) (a .q) (pre .0 .0 .cheap) (pre .0 .1) _ _ _ _ _ (lay .ensures) (p .result) (p .ensures) _ (c .before .before .before .before .before .before .before .before .before .before .fill-tree .ensures .0) _ (c .before .before .before .before .before .before .before .before .needs-second .ensures) ∙ ap roundIf yes) _ (c .fill-tree2 .ensures .0) _ refl
 
 pub settle-spec : {M : Type 1} → statement M
 settle-spec =

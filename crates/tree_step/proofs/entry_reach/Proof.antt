@@ -32,7 +32,7 @@ returns c =
 tail-range-requires : tie.Need-tail-range-requires
 tail-range-requires c κs =
     let pre = c .before .before .before .before .before .before .before .before .before .pre in
-    ((pre .0 .0, pre .0 .2), pre .1 .1 .0)
+    (pre .0, pre .1 .1 .0)
 
 best-from-requires : tie.Need-best-from-requires
 best-from-requires c κs =

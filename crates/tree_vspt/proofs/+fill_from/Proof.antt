@@ -40,17 +40,17 @@ inside t c =
     let start = c .before .before .before .before in
     let a = start .args in
     let pre = start .pre .1 in
-    end-inside (layoutOf (a .layout)) (a .s .now) (a .exclude .now) (a .q) (pre .0 .1) (pre .0 .2) (a .addresses .now) (a .starts .now) (a .firsts .now) (a .lasts .now) (pre .1 .0)
-    (a .i) (omega (arith, pre .0 .3))
+    end-inside (layoutOf (a .layout)) (a .s .now) (a .exclude .now) (a .q) (pre .0 .0 .cheap) (pre .0 .1) (a .addresses .now) (a .starts .now) (a .firsts .now) (a .lasts .now) (pre .1 .0)
+    (a .i) (omega (arith, pre .0 .2))
 
 fill-from-mul-at : (t : ℕ) → fill-from-lts.Need-mul-at (claims t) (fill-from-at t) fill-from.Post
-fill-from-mul-at t c = let pre = c .before .before .before .before .pre .1 .0 in omega (arith, pre .2 .most, pre .3)
+fill-from-mul-at t c = let pre = c .before .before .before .before .pre .1 .0 in omega (arith, pre .1 .most, pre .2)
 
 fill-from-element-copy-out-at : (t : ℕ) → fill-from-lts.Need-element-copy-out-at (claims t) (fill-from-at t) fill-from.Post
-fill-from-element-copy-out-at t c = let pre = c .before .before .before .before .pre .1 .0 in omega (arith, pre .2 .most, pre .3)
+fill-from-element-copy-out-at t c = let pre = c .before .before .before .before .pre .1 .0 in omega (arith, pre .1 .most, pre .2)
 
 fill-from-arrival-requires : (t : ℕ) → fill-from-lts.Need-arrival-requires (claims t) (fill-from-at t) fill-from.Post
-fill-from-arrival-requires t c κs = c .before .before .before .before .before .before .pre .1 .0 .2 .exclude-right
+fill-from-arrival-requires t c κs = c .before .before .before .before .before .before .pre .1 .0 .1 .exclude-right
 
 fill-from-mul-reaches : (t : ℕ) → fill-from-lts.Need-mul-reaches (claims t) (fill-from-at t) fill-from.Post
 fill-from-mul-reaches t c = let h = inside t (c .before .before .before) in omega arith
@@ -72,12 +72,12 @@ fill-from-returns t c =
     let pre = start .pre .1 in
     let L = layoutOf (a .layout) in
     let none : 0 ≡ a .left = omega arith in
-    filled-last L (a .s .now) (a .exclude .now) (a .q) (pre .0 .1) (pre .0 .2) (a .addresses .now) (a .starts .now) (a .firsts .now) (a .lasts .now) (pre .1 .0)
-    (a .i) (a .reaches .now) (c .arrival .result) (omega (arith, pre .0 .3)) (pre .1 .1) (c .arrival .ensures)
+    filled-last L (a .s .now) (a .exclude .now) (a .q) (pre .0 .0 .cheap) (pre .0 .1) (a .addresses .now) (a .starts .now) (a .firsts .now) (a .lasts .now) (pre .1 .0)
+    (a .i) (a .reaches .now) (c .arrival .result) (omega (arith, pre .0 .2)) (pre .1 .1) (c .arrival .ensures)
     ∙ ap (λ (n : ℕ). filledFrom (searchFor L (a .s .now) (a .exclude .now) (a .q)) (a .i) (suc n) (a .reaches .now)) none
 
 fill-from-add-fill-from : (t : ℕ) → fill-from-lts.Need-add-fill-from (claims t) (fill-from-at t) fill-from.Post
-fill-from-add-fill-from t c = let pre = c .before .before .before .before .pre .1 .0 in omega (arith, pre .2 .most, pre .3)
+fill-from-add-fill-from t c = let pre = c .before .before .before .before .pre .1 .0 in omega (arith, pre .1 .most, pre .2)
 
 fill-from-sub-fill-from : (t : ℕ) → fill-from-lts.Need-sub-fill-from (claims t) (fill-from-at t) fill-from.Post
 fill-from-sub-fill-from t c = omega arith
@@ -86,7 +86,7 @@ fill-from-fill-from-requires : (t : ℕ) → fill-from-lts.Need-fill-from-requir
 fill-from-fill-from-requires t c κs =
     let start = c .before .before .before .before .before in
     let pre = start .pre .1 in
-    (omega (arith, start .pre .0), ((pre .0 .0, pre .0 .1, pre .0 .2, omega (arith, pre .0 .3)), pre .1))
+    (omega (arith, start .pre .0), ((pre .0 .0, pre .0 .1, omega (arith, pre .0 .2)), pre .1))
 
 -- what the call before has written: the places behind this one
 written
@@ -106,16 +106,16 @@ fill-from-fill-place-requires t c κs =
     let a = start .args in
     let pre = start .pre .1 in
     let some = c .before .before .before .before .before .if1 .left in
-    let count : a .i + suc (a .left - 1) ≡ a .q .count = omega (arith, pre .0 .3) in
+    let count : a .i + suc (a .left - 1) ≡ a .q .count = omega (arith, pre .0 .2) in
     let w = written t (c .before .before .before) in (
-      (pre .0 .0, pre .0 .1, pre .0 .2, omega arith),
+      (pre .0 .0, pre .0 .1, omega arith),
       (
         (
           pre .1 .0,
-          mid-long (layoutOf (a .layout)) (a .s .now) (a .exclude .now) (a .q) (pre .0 .1) (pre .0 .2) (a .addresses .now) (a .starts .now) (a .firsts .now) (a .lasts .now) (pre .1 .0)
+          mid-long (layoutOf (a .layout)) (a .s .now) (a .exclude .now) (a .q) (pre .0 .0 .cheap) (pre .0 .1) (a .addresses .now) (a .starts .now) (a .firsts .now) (a .lasts .now) (pre .1 .0)
               (a .i) (a .left - 1) count (a .reaches .now) _ (pre .1 .1) w,
         ),
-        next-codes (layoutOf (a .layout)) (a .s .now) (a .exclude .now) (a .q) (pre .0 .1) (pre .0 .2) (a .addresses .now) (a .starts .now) (a .firsts .now) (a .lasts .now) (pre .1 .0)
+        next-codes (layoutOf (a .layout)) (a .s .now) (a .exclude .now) (a .q) (pre .0 .0 .cheap) (pre .0 .1) (a .addresses .now) (a .starts .now) (a .firsts .now) (a .lasts .now) (pre .1 .0)
             (a .i) (a .left - 1) count (a .reaches .now) _ (pre .1 .1) w,
       ),
     )
@@ -126,9 +126,9 @@ fill-from-same-length-2 t c =
     let a = start .args in
     let pre = start .pre .1 in
     let some = c .before .before .before .before .before .before .before .before .if1 .left in
-    let count : a .i + suc (a .left - 1) ≡ a .q .count = omega (arith, pre .0 .3) in
+    let count : a .i + suc (a .left - 1) ≡ a .q .count = omega (arith, pre .0 .2) in
     let w = written t (c .before .before .before .before .before .before) in
-    exit-long (layoutOf (a .layout)) (a .s .now) (a .exclude .now) (a .q) (pre .0 .1) (pre .0 .2) (a .addresses .now) (a .starts .now) (a .firsts .now) (a .lasts .now) (pre .1 .0)
+    exit-long (layoutOf (a .layout)) (a .s .now) (a .exclude .now) (a .q) (pre .0 .0 .cheap) (pre .0 .1) (a .addresses .now) (a .starts .now) (a .firsts .now) (a .lasts .now) (pre .1 .0)
     (a .i) (a .left - 1) count (a .reaches .now) _ (pre .1 .1) w _ (c .before .before .fill-place .ensures)
 
 fill-from-returns-2 : (t : ℕ) → fill-from-lts.Need-returns-2 (claims t) (fill-from-at t) fill-from.Post
@@ -137,10 +137,10 @@ fill-from-returns-2 t c =
     let a = start .args in
     let pre = start .pre .1 in
     let some = c .before .before .before .before .before .before .before .before .if1 .left in
-    let count : a .i + suc (a .left - 1) ≡ a .q .count = omega (arith, pre .0 .3) in
+    let count : a .i + suc (a .left - 1) ≡ a .q .count = omega (arith, pre .0 .2) in
     let w = written t (c .before .before .before .before .before .before) in
     let left : suc (suc (a .left - 1)) ≡ suc (a .left) = omega arith in
-    filled-step (layoutOf (a .layout)) (a .s .now) (a .exclude .now) (a .q) (pre .0 .1) (pre .0 .2) (a .addresses .now) (a .starts .now) (a .firsts .now) (a .lasts .now) (pre .1 .0)
+    filled-step (layoutOf (a .layout)) (a .s .now) (a .exclude .now) (a .q) (pre .0 .0 .cheap) (pre .0 .1) (a .addresses .now) (a .starts .now) (a .firsts .now) (a .lasts .now) (pre .1 .0)
     (a .i) (a .left - 1) count (a .reaches .now) _ (pre .1 .1) w _ (c .before .before .fill-place .ensures)
     ∙ ap (λ (n : ℕ). filledFrom (searchFor (layoutOf (a .layout)) (a .s .now) (a .exclude .now) (a .q)) (a .i) n (a .reaches .now)) left
 

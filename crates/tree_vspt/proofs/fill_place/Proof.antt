@@ -16,16 +16,16 @@ fill-level-requires c κs =
     let pre = start .pre in
     let leg = c .before .before .leg-at in
     let for = leg .ensures (a .addresses .now) (pre .1 .0 .0 .examined) (pre .1 .0 .0 .laid) in (
-      (pre .0 .0, pre .0 .1, pre .0 .2 .profile-right),
+      record { layout = pre .0 .0; passed = pre .0 .1 .profile-right },
       (
-        (pre .0 .2 .exclude-right, pre .0 .2 .bandwidth-right),
+        (pre .0 .1 .exclude-right, pre .0 .1 .bandwidth-right),
         (
           for .range,
           (
-            in-order (layoutOf (a .layout)) (a .s .now) (a .exclude .now) (a .q) (start .pre .0 .1) (start .pre .0 .2) (a .addresses .now) (a .starts .now) (a .firsts .now) (a .lasts .now) (start .pre .1 .0 .0)
-                (a .i) (start .pre .0 .3) (a .reaches .now) (start .pre .1 .0 .1) (start .pre .1 .1) (leg .result) (for .is),
-            next-place (layoutOf (a .layout)) (a .s .now) (a .exclude .now) (a .q) (start .pre .0 .1) (start .pre .0 .2) (a .addresses .now) (a .starts .now) (a .firsts .now) (a .lasts .now) (start .pre .1 .0 .0)
-                (a .i) (start .pre .0 .3) (a .reaches .now) (start .pre .1 .0 .1) (start .pre .1 .1) (leg .result) (for .is),
+            in-order (layoutOf (a .layout)) (a .s .now) (a .exclude .now) (a .q) (start .pre .0 .0 .cheap) (start .pre .0 .1) (a .addresses .now) (a .starts .now) (a .firsts .now) (a .lasts .now) (start .pre .1 .0 .0)
+                (a .i) (start .pre .0 .2) (a .reaches .now) (start .pre .1 .0 .1) (start .pre .1 .1) (leg .result) (for .is),
+            next-place (layoutOf (a .layout)) (a .s .now) (a .exclude .now) (a .q) (start .pre .0 .0 .cheap) (start .pre .0 .1) (a .addresses .now) (a .starts .now) (a .firsts .now) (a .lasts .now) (start .pre .1 .0 .0)
+                (a .i) (start .pre .0 .2) (a .reaches .now) (start .pre .1 .0 .1) (start .pre .1 .1) (leg .result) (for .is),
           ),
         ),
       ),
@@ -40,8 +40,8 @@ returns c =
     let a = start .args in
     let leg = c .before .before .before .before .before .leg-at in
     let for = leg .ensures (a .addresses .now) (start .pre .1 .0 .0 .examined) (start .pre .1 .0 .0 .laid) in
-    placed (layoutOf (a .layout)) (a .s .now) (a .exclude .now) (a .q) (start .pre .0 .1) (start .pre .0 .2) (a .addresses .now) (a .starts .now) (a .firsts .now) (a .lasts .now) (start .pre .1 .0 .0)
-    (a .i) (start .pre .0 .3) (a .reaches .now) (start .pre .1 .0 .1) (start .pre .1 .1) (leg .result) (for .is) _ (c .before .before .fill-level .ensures)
+    placed (layoutOf (a .layout)) (a .s .now) (a .exclude .now) (a .q) (start .pre .0 .0 .cheap) (start .pre .0 .1) (a .addresses .now) (a .starts .now) (a .firsts .now) (a .lasts .now) (start .pre .1 .0 .0)
+    (a .i) (start .pre .0 .2) (a .reaches .now) (start .pre .1 .0 .1) (start .pre .1 .1) (leg .result) (for .is) _ (c .before .before .fill-level .ensures)
 
 pub fill-place-spec : {M : Type 1} → statement M
 fill-place-spec = tie.close (tie.spec leg-at-requires fill-level-requires same-length returns)

@@ -1,15 +1,15 @@
--- `calculator::paths::yq_series` meets its contract: the limits are those of the bits, and the run's answer is told by its number.
+-- `calculator::paths::yq_series` meets its contract: what is asked is told by its numbers, and the run's answer is told by its number.
 -- Assumes nothing.
 use mathlib.Core.Path.{sym}
-use Rattle.model.specs.declared.Limits.{Limits}
-use Rattle.request.specs.CheckedRequest.{requestOf}
+use Rattle.request.specs.declared.Asked.{Asked}
+use Rattle.request.specs.CheckedRequest.{requestFor}
 use Rattle.calculator.proofs.PathCalls.{series-export}
 use borrow.Author.Needs.{needs}
 use Rattle.calculator.proofs.paths.yq_series.Statement.{statement}
 use Rattle.calculator.proofs.paths.yq_series.Tie as tie
 
-limits-of-requires : tie.Need-limits-of-requires
-limits-of-requires c κs = search needs
+asked-of-requires : tie.Need-asked-of-requires
+asked-of-requires c κs = search needs
 
 run-requires : tie.Need-run-requires
 run-requires c κs = search needs
@@ -30,8 +30,8 @@ returns : tie.Need-returns
 returns c =
     let a = c .before .before .before .before .before .before .before .before .before .before .before .before .before .before .before .before .before .args in
     series-export
-    (λ (limits : Limits). requestOf (a .profile .now) (a .ingress) (a .source) (a .destination) (a .include .now) (a .exclude .now) limits)
-    _ _ _ _ _ _ _ _ _ _ (c .before .before .before .before .before .before .before .before .before .limits-of .ensures) (c .before .before .before .before .before .before .run .ensures) (sym (c .enum-told .given .1))
+    (λ (asked : Asked). requestFor (a .profile .now) asked (a .include .now) (a .exclude .now))
+    _ _ _ _ _ _ _ _ _ _ (c .before .before .before .before .before .before .before .before .before .asked-of .ensures) (c .before .before .before .before .before .before .run .ensures) (sym (c .enum-told .given .1))
 
 same-length-3 : tie.Need-same-length-3
 same-length-3 c = search needs
@@ -43,14 +43,14 @@ returns-2 : tie.Need-returns-2
 returns-2 c =
     let a = c .before .before .before .before .before .before .before .before .before .before .before .before .before .before .before .before .before .args in
     series-export
-    (λ (limits : Limits). requestOf (a .profile .now) (a .ingress) (a .source) (a .destination) (a .include .now) (a .exclude .now) limits)
-    _ _ _ _ _ _ _ _ _ _ (c .before .before .before .before .before .before .before .before .before .limits-of .ensures) (c .before .before .before .before .before .before .run .ensures) (sym (c .enum-told2 .given .1))
+    (λ (asked : Asked). requestFor (a .profile .now) asked (a .include .now) (a .exclude .now))
+    _ _ _ _ _ _ _ _ _ _ (c .before .before .before .before .before .before .before .before .before .asked-of .ensures) (c .before .before .before .before .before .before .run .ensures) (sym (c .enum-told2 .given .1))
 
 pub yq-series-spec : {M : Type 1} → statement M
 yq-series-spec =
     tie.close
     (tie.spec
-    limits-of-requires
+    asked-of-requires
     run-requires
     enum-told
     enum-told-2

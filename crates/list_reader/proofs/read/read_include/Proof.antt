@@ -2,7 +2,7 @@
 use mathlib.Core.Path.{_≡_, sym, ap, _∙_}
 use native.Mathlib.Omega.{arith}
 use Rattle.model.specs.declared.Verdict.{Verdict}
-use Rattle.model.specs.Profile.{version1, domains}
+use Rattle.model.specs.Profile.{layoutIn, domains}
 use Rattle.model.specs.Request.{provided}
 use Rattle.model.specs.Sequence as M
 use Rattle.model.specs.Calls.{readingOf}
@@ -47,7 +47,7 @@ read-list-requires : tie.Need-read-list-requires
 read-list-requires c κs =
     let a = c .before .before .before .before .before .before .before .before .args in
     let p = checked c in
-    ((whole-domains version1 (a .profile .now) (p .profile), short-areas version1 (a .profile .now) (p .profile), p .ingress), (p .size, p .form))
+    ((whole-domains (layoutIn (a .profile .now)) (a .profile .now) (p .profile), short-areas (layoutIn (a .profile .now)) (a .profile .now) (p .profile), p .ingress), (p .size, p .form))
 
 enum-known-verdict : tie.Need-enum-known-verdict
 enum-known-verdict c = search needs

@@ -3,14 +3,14 @@ use mathlib.Core.Path.{_≡_, sym, subst, _∙_}
 use Prim.Native.Nat.{ℕ, _≤_, _<_}
 use borrow.Author.Tests.{lt-ltb, le-ltb, le-leb, lt-leb}
 use Rattle.model.specs.declared.Verdict.the-variants.{Pass}
-use Rattle.model.specs.Profile.{version1, profileVerdict}
+use Rattle.model.specs.Profile.{layoutIn, verdictOn}
 use Rattle.profile_check.proofs.Access.{file-length}
 use Rattle.list_reader.proofs.ReadChecks.{profile-refused, ingress-refused, size-refused, form-left}
 use borrow.Author.Needs.{needs}
 use Rattle.list_reader.proofs.read.read_verdict.Statement.{statement}
 use Rattle.list_reader.proofs.read.read_verdict.Tie as tie
 
-taken : (c : tie.After-enum-told) → profileVerdict version1 (c .before .before .before .before .before .args .profile .now) ≡ Pass
+taken : (c : tie.After-enum-told) → verdictOn (c .before .before .before .before .before .args .profile .now) ≡ Pass
 taken c = sym (c .before .before .verdict-on .ensures) ∙ c .enum-told .given .1
 
 verdict-on-requires : tie.Need-verdict-on-requires
@@ -28,7 +28,7 @@ enum-told : tie.Need-enum-told
 enum-told c = search needs
 
 domain-count-requires : tie.Need-domain-count-requires
-domain-count-requires c κs = file-length version1 (c .before .before .before .before .before .args .profile .now) (taken c) .0
+domain-count-requires c κs = file-length (layoutIn (c .before .before .before .before .before .args .profile .now)) (c .before .before .before .before .before .args .profile .now) (taken c) .0
 
 returns-2 : tie.Need-returns-2
 returns-2 c =

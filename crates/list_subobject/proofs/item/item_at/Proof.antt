@@ -22,12 +22,10 @@ returns c =
     let s = a .list .now in
     let h = c .before .before .before .before .pre in
     let n = c .before .next-at .ensures in
-    let l = length-least (typeAt s (a .at)) (areaLengthAt s (a .at)) (lengthAt s (a .at)) (h .fits) in
+    let l = length-least (h .kind) (typeAt s (a .at)) (areaLengthAt s (a .at)) (lengthAt s (a .at)) (h .fits) in
     let i = h .inside in
     let named = c .before .before .named-at .ensures in
-    λ k right.
     record {
-      right = right;
       offset = refl;
       top = refl;
       named = named .named;

@@ -2,7 +2,7 @@
 use mathlib.Core.Path.{refl, sym, _∙_}
 use native.Mathlib.Omega.{arith}
 use denote.Ref.{now}
-use Rattle.model.specs.Profile.{version1}
+use Rattle.model.specs.Profile.{layoutIn}
 use Rattle.laws.proofs.Accepted.{accepted}
 use Rattle.list_writer.specs.Writing.{Writable}
 use Rattle.list_writer.proofs.Outcomes.{refused-sequence, fits, too-small, all-written}
@@ -21,7 +21,7 @@ can-write c = record { accepted = c .before .before .before .before .before .bef
 
 unwritable-requires : tie.Need-unwritable-requires
 unwritable-requires c κs =
-    let header = (accepted version1 (now (c .before .before .before .before .before .args .profile)) (c .before .before .before .before .before .pre)) .hasHeader in
+    let header = (accepted (layoutIn (now (c .before .before .before .before .before .args .profile))) (now (c .before .before .before .before .before .args .profile)) (c .before .before .before .before .before .pre)) .hasHeader in
     omega arith
 
 returns : tie.Need-returns

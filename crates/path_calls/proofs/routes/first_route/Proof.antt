@@ -22,7 +22,7 @@ refused-requires c κs = search needs
 returns : tie.Need-returns
 returns c =
     let a = c .before .before .before .before .before .before .before .before .args in
-    subst (λ (o : Outcome ℕ). ReplyIs o (a .room) (c .refused .result)) (sym (first-refused (a .profile .now) (a .ingress) (a .source) (a .destination) (a .include .now) (a .exclude .now) (a .limits) (c .before .before .before .before .check-request .result) (c .before .before .before .before .check-request .ensures) (a .room) _ (c .before .before .verdict .given .1))) (c .refused .ensures (a .room))
+    subst (λ (o : Outcome ℕ). ReplyIs o (a .room) (c .refused .result)) (sym (first-refused (a .profile .now) (a .asked) (a .include .now) (a .exclude .now) (c .before .before .before .before .check-request .result) (c .before .before .before .before .check-request .ensures) (a .room) _ (c .before .before .verdict .given .1))) (c .refused .ensures (a .room))
 
 enum-told : tie.Need-enum-told
 enum-told c = search needs
@@ -34,7 +34,7 @@ returns-2 : tie.Need-returns-2
 returns-2 c =
     let a = c .before .before .before .before .before .before .before .before .before .before .args in
     let small = c .before .if1 .taken in
-    subst (λ (o : Outcome ℕ). ReplyIs o (a .room) (c .refused-by .result)) (sym (first-small (a .profile .now) (a .ingress) (a .source) (a .destination) (a .include .now) (a .exclude .now) (a .limits) (c .before .before .before .before .before .before .check-request .result) (c .before .before .before .before .before .before .check-request .ensures) (a .room) (c .before .before .before .before .enum-told .given .1) (omega arith))) (c .refused-by .ensures (a .room))
+    subst (λ (o : Outcome ℕ). ReplyIs o (a .room) (c .refused-by .result)) (sym (first-small (a .profile .now) (a .asked) (a .include .now) (a .exclude .now) (c .before .before .before .before .before .before .check-request .result) (c .before .before .before .before .before .before .check-request .ensures) (a .room) (c .before .before .before .before .enum-told .given .1) (omega arith))) (c .refused-by .ensures (a .room))
 
 slice-aggregate-sought-route : tie.Need-slice-aggregate-sought-route
 slice-aggregate-sought-route c = search needs
@@ -46,7 +46,7 @@ returns-3 : tie.Need-returns-3
 returns-3 c =
     let a = c .before .before .before .before .before .before .before .before .before .before .before .args in
     let fits = c .before .before .if1 .left in
-    subst (λ (o : Outcome ℕ). ReplyIs o (a .room) (c .sought-route .result)) (sym (first-searched (a .profile .now) (a .ingress) (a .source) (a .destination) (a .include .now) (a .exclude .now) (a .limits) (c .before .before .before .before .before .before .before .check-request .result) (c .before .before .before .before .before .before .before .check-request .ensures) (a .room) (c .before .before .before .before .before .enum-told .given .1) (omega arith))) (c .sought-route .ensures (a .room) (omega arith))
+    subst (λ (o : Outcome ℕ). ReplyIs o (a .room) (c .sought-route .result)) (sym (first-searched (a .profile .now) (a .asked) (a .include .now) (a .exclude .now) (c .before .before .before .before .before .before .before .check-request .result) (c .before .before .before .before .before .before .before .check-request .ensures) (a .room) (c .before .before .before .before .before .enum-told .given .1) (omega arith))) (c .sought-route .ensures (a .room) (omega arith))
 
 pub first-route-spec : {M : Type 1} → statement M
 first-route-spec =

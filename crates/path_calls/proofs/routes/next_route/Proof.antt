@@ -23,7 +23,7 @@ refused-requires c κs = search needs
 returns : tie.Need-returns
 returns c =
     let a = c .before .before .before .before .before .before .before .before .before .args in
-    subst (λ (o : Outcome ℕ). ReplyIs o (a .room) (c .refused .result)) (sym (next-refused (a .profile .now) (a .ingress) (a .source) (a .destination) (a .include .now) (a .exclude .now) (a .limits) (c .before .before .before .before .check-request .result) (c .before .before .before .before .check-request .ensures) (a .room) (a .given .now) _ (c .before .before .verdict .given .1))) (c .refused .ensures (a .room))
+    subst (λ (o : Outcome ℕ). ReplyIs o (a .room) (c .refused .result)) (sym (next-refused (a .profile .now) (a .asked) (a .include .now) (a .exclude .now) (c .before .before .before .before .check-request .result) (c .before .before .before .before .check-request .ensures) (a .room) (a .given .now) _ (c .before .before .verdict .given .1))) (c .refused .ensures (a .room))
 
 enum-told : tie.Need-enum-told
 enum-told c = search needs
@@ -37,7 +37,7 @@ refused-by-requires c κs = search needs
 returns-2 : tie.Need-returns-2
 returns-2 c =
     let a = c .before .before .before .before .before .before .before .before .before .before .before .args in
-    subst (λ (o : Outcome ℕ). ReplyIs o (a .room) (c .refused-by .result)) (sym (next-unfit (a .profile .now) (a .ingress) (a .source) (a .destination) (a .include .now) (a .exclude .now) (a .limits) (c .before .before .before .before .before .before .check-request .result) (c .before .before .before .before .before .before .check-request .ensures) (a .room) (a .given .now) (c .before .before .before .before .enum-told .given .1) (λ e. (c .before .if1 .taken) (e ∙ sym (add-one _))))) (c .refused-by .ensures (a .room))
+    subst (λ (o : Outcome ℕ). ReplyIs o (a .room) (c .refused-by .result)) (sym (next-unfit (a .profile .now) (a .asked) (a .include .now) (a .exclude .now) (c .before .before .before .before .before .before .check-request .result) (c .before .before .before .before .before .before .check-request .ensures) (a .room) (a .given .now) (c .before .before .before .before .enum-told .given .1) (λ e. (c .before .if1 .taken) (e ∙ sym (add-one _))))) (c .refused-by .ensures (a .room))
 
 refused-by-requires-2 : tie.Need-refused-by-requires-2
 refused-by-requires-2 c κs = search needs
@@ -46,7 +46,7 @@ returns-3 : tie.Need-returns-3
 returns-3 c =
     let a = c .before .before .before .before .before .before .before .before .before .before .before .before .args in
     let small = c .before .if2 .taken in
-    subst (λ (o : Outcome ℕ). ReplyIs o (a .room) (c .refused-by2 .result)) (sym (next-small (a .profile .now) (a .ingress) (a .source) (a .destination) (a .include .now) (a .exclude .now) (a .limits) (c .before .before .before .before .before .before .before .check-request .result) (c .before .before .before .before .before .before .before .check-request .ensures) (a .room) (a .given .now) (c .before .before .before .before .before .enum-told .given .1) (c .before .before .if1 .left ∙ add-one _) (omega arith))) (c .refused-by2 .ensures (a .room))
+    subst (λ (o : Outcome ℕ). ReplyIs o (a .room) (c .refused-by2 .result)) (sym (next-small (a .profile .now) (a .asked) (a .include .now) (a .exclude .now) (c .before .before .before .before .before .before .before .check-request .result) (c .before .before .before .before .before .before .before .check-request .ensures) (a .room) (a .given .now) (c .before .before .before .before .before .enum-told .given .1) (c .before .before .if1 .left ∙ add-one _) (omega arith))) (c .refused-by2 .ensures (a .room))
 
 sought-route-requires : tie.Need-sought-route-requires
 sought-route-requires c κs = ((c .before .before .before .before .before .before .check-request .ensures) .ready (c .before .before .before .before .enum-told .given .1), λ h. c .before .if1 .left ∙ add-one _)
@@ -55,7 +55,7 @@ returns-4 : tie.Need-returns-4
 returns-4 c =
     let a = c .before .before .before .before .before .before .before .before .before .before .before .before .args in
     let fits = c .before .if2 .left in
-    subst (λ (o : Outcome ℕ). ReplyIs o (a .room) (c .sought-route .result)) (sym (next-searched (a .profile .now) (a .ingress) (a .source) (a .destination) (a .include .now) (a .exclude .now) (a .limits) (c .before .before .before .before .before .before .before .check-request .result) (c .before .before .before .before .before .before .before .check-request .ensures) (a .room) (a .given .now) (c .before .before .before .before .before .enum-told .given .1) (c .before .before .if1 .left ∙ add-one _) (omega arith))) (c .sought-route .ensures (a .room) (omega arith))
+    subst (λ (o : Outcome ℕ). ReplyIs o (a .room) (c .sought-route .result)) (sym (next-searched (a .profile .now) (a .asked) (a .include .now) (a .exclude .now) (c .before .before .before .before .before .before .before .check-request .result) (c .before .before .before .before .before .before .before .check-request .ensures) (a .room) (a .given .now) (c .before .before .before .before .before .enum-told .given .1) (c .before .before .if1 .left ∙ add-one _) (omega arith))) (c .sought-route .ensures (a .room) (omega arith))
 
 pub next-route-spec : {M : Type 1} → statement M
 next-route-spec =

@@ -1,30 +1,29 @@
--- `path_calls::routes::sought_route` meets its contract: the search is that of the first version's layout.
+-- `path_calls::routes::sought_route` meets its contract: the search is that of the layout that the profile says.
 -- Assumes nothing.
 use mathlib.Core.Path.{sym, subst}
 use native.Mathlib.Omega.{arith}
-use Prim.Native.Nat.{_≤_}
 use Rattle.model.specs.declared.Round.{Round}
-use Rattle.model.specs.Profile.{Layout, version1, costLimit}
+use Rattle.model.specs.Profile.{Layout, layoutIn}
 use Rattle.model.specs.Path.{shortestPaths}
 use Rattle.model.specs.Calls.{firstOf, greaterThan}
 use Rattle.path_answers.specs.PathReply.{noneNumber, ReplyIs}
 use Rattle.profile_records.specs.Layout.{SoundLayout}
-use Rattle.profile_check.proofs.Access.{version1-sound}
+use Rattle.profile_records.proofs.Layouts.{layout-sound}
 use Rattle.request.specs.Query.{searchFor, inRound, roundFor, Ready}
 use Rattle.path_search.specs.Searched.{ResultFor}
 use borrow.Author.Needs.{needs}
 use Rattle.path_calls.proofs.routes.sought_route.Statement.{statement}
 use Rattle.path_calls.proofs.routes.sought_route.Tie as tie
 
-first-version-requires : tie.Need-first-version-requires
-first-version-requires c κs = search needs
+layout-in-requires : tie.Need-layout-in-requires
+layout-in-requires c κs = search needs
 
 search-requires : tie.Need-search-requires
 search-requires c κs =
     let start = c .before .before .before .before in
     let a = start .args in
-    let e = sym (c .first-version .ensures) in
-    ((subst SoundLayout e version1-sound, subst (λ (L : Layout). L .mostCost ≤ costLimit) e (omega arith), subst (λ (L : Layout). Ready L (a .profile .now) (a .exclude .now) (a .q)) e (start .pre .0)), start .pre .1)
+    let e = sym (c .layout-in .ensures) in
+    ((subst SoundLayout e (layout-sound (a .profile .now)), subst (λ (L : Layout). Ready L (a .profile .now) (a .exclude .now) (a .q)) e (start .pre .0)), start .pre .1)
 
 answered-requires : tie.Need-answered-requires
 answered-requires c κs =
@@ -35,12 +34,12 @@ returns : tie.Need-returns
 returns c =
     let a = c .before .before .before .before .before .before .args in
     let x = c .before .search in
-    let for = subst (λ (L : Layout). ResultFor L (a .profile .now) (a .exclude .now) (a .q) (a .given .now) (x .result)) (c .before .before .first-version .ensures) (x .ensures) in
-    let S = searchFor version1 (a .profile .now) (a .exclude .now) (inRound (roundFor version1 (a .profile .now) (a .exclude .now) (a .q)) (a .q)) in
+    let for = subst (λ (L : Layout). ResultFor L (a .profile .now) (a .exclude .now) (a .q) (a .given .now) (x .result)) (c .before .before .layout-in .ensures) (x .ensures) in
+    let S = searchFor (layoutIn (a .profile .now)) (a .profile .now) (a .exclude .now) (inRound (roundFor (layoutIn (a .profile .now)) (a .profile .now) (a .exclude .now) (a .q)) (a .q)) in
     λ room fits.
     subst (λ (y : Round). ReplyIs (firstOf y (noneNumber (a .again)) (greaterThan (a .given .now) (shortestPaths S))) room (c .answered .result)) (for .round-is)
     (c .answered .ensures S (a .given .now) room (for .is) fits)
 
 pub sought-route-spec : {M : Type 1} → statement M
 sought-route-spec =
-    tie.close (tie.spec first-version-requires search-requires answered-requires returns)
+    tie.close (tie.spec layout-in-requires search-requires answered-requires returns)

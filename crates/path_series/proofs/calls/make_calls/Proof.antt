@@ -8,18 +8,18 @@ use borrow.Author.Needs.{needs}
 use denote.Ref.{now}
 use lib.ListN.{length, getD, take}
 use lib.Seq.{paste}
-use Rattle.request.specs.CheckedRequest.{requestOf}
+use Rattle.request.specs.CheckedRequest.{requestFor}
 use Rattle.path_series.proofs.Forms.{Formed, formed}
 use Rattle.path_series.proofs.Steps.{Progress, begin, five-long, keptAfter, kept-new, kept-old, room-here, numbers-here, turn, done}
 use Rattle.path_series.proofs.calls.make_calls.Statement.{statement}
 use Rattle.path_series.proofs.calls.make_calls.Tie as tie
 
 abbrev Inv-loop : tie.InvT-loop
-Inv-loop profile ingress source destination include exclude limits kinds sizes buffers₀ numbers₀ last₀ n₀ at₀ j₀ buffers numbers last n at j =
-    Progress (requestOf profile (ingress .0) (source .0) (destination .0) include exclude limits) kinds sizes buffers₀ numbers₀ buffers numbers last n at j
+Inv-loop profile asked include exclude kinds sizes buffers₀ numbers₀ last₀ n₀ at₀ j₀ buffers numbers last n at j =
+    Progress (requestFor profile asked include exclude) kinds sizes buffers₀ numbers₀ buffers numbers last n at j
 
 abbrev μ-loop : tie.MeasureT-loop
-μ-loop profile ingress source destination include exclude limits kinds sizes buffers₀ numbers₀ last₀ n₀ at₀ j₀ buffers numbers last n at j = length kinds - j
+μ-loop profile asked include exclude kinds sizes buffers₀ numbers₀ last₀ n₀ at₀ j₀ buffers numbers last n at j = length kinds - j
 
 -- the arguments fit together
 fit : (c : tie.At-loop Inv-loop μ-loop) → Formed (c .before .before .before .before .before .before .before .before .args .kinds .now) (c .before .before .before .before .before .before .before .before .args .sizes .now) (length (c .before .before .before .before .before .before .before .before .args .buffers .now)) (length (c .before .before .before .before .before .before .before .before .args .numbers .now))

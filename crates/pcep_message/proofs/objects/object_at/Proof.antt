@@ -6,7 +6,7 @@ use native.Mathlib.Omega.{arith}
 use borrow.Author.Tests.{eq-eqb, ne-eqb}
 use Rattle.pcep_model.specs.Objects.{classAt, sizeAt}
 use Rattle.pcep_message.specs.Walked.{sizeRefused}
-use Rattle.pcep_message.proofs.Checks.{least, short, long, known-passes, clear-passes, demanded-refused, class-small, refused, passed}
+use Rattle.pcep_message.proofs.Checks.{least, short, long, known-passes, clear-passes, demanded-refused, class-small, passed}
 use borrow.Author.Needs.{needs}
 use Rattle.pcep_message.proofs.objects.object_at.Statement.{statement}
 use Rattle.pcep_message.proofs.objects.object_at.Tie as tie
@@ -27,16 +27,11 @@ sized c =
 sub-left : tie.Need-sub-left
 sub-left c = search needs
 
-cast-refuse : tie.Need-cast-refuse
-cast-refuse c = search needs
-
-refuse-requires : tie.Need-refuse-requires
-refuse-requires c κs = search needs
+cast-t11 : tie.Need-cast-t11
+cast-t11 c = search needs
 
 returns : tie.Need-returns
-returns c =
-    let a = c .before .before .before .args in
-    refused (a .kind) (a .message .now) (a .at) 37 _ (c .refuse .ensures) (short (a .kind) (a .message .now) (a .at) (omega arith))
+returns c = let a = c .before .before .args in sym (short (a .kind) (a .message .now) (a .at) (omega arith))
 
 shared-slice-read-class : tie.Need-shared-slice-read-class
 shared-slice-read-class c = search needs
@@ -62,23 +57,19 @@ least-of-requires c κs = search needs
 size-wrong-requires : tie.Need-size-wrong-requires
 size-wrong-requires c κs = search needs
 
-cast-refuse-2 : tie.Need-cast-refuse-2
-cast-refuse-2 c = search needs
-
-refuse-requires-2 : tie.Need-refuse-requires-2
-refuse-requires-2 c κs = search needs
+cast-t18 : tie.Need-cast-t18
+cast-t18 c = search needs
 
 returns-2 : tie.Need-returns-2
 returns-2 c =
-    let a = c .before .before .before .before .before .before .before .before .before .args in
-    refused (a .kind) (a .message .now) (a .at) 37 _ (c .refuse2 .ensures)
-    (sym (long (a .kind) (a .message .now) (a .at) (four (c .before .before .before .before .before .before .before)) ∙ rw (sym (sized (c .before .before)) ∙ c .before .if2 .taken) refl))
+    let a = c .before .before .before .before .before .before .before .before .args in
+    long (a .kind) (a .message .now) (a .at) (four (c .before .before .before .before .before .before)) ∙ rw (sym (sized (c .before)) ∙ c .if2 .taken) refl
 
 wide-requires : tie.Need-wide-requires
 wide-requires c κs = search needs
 
-add-t22 : tie.Need-add-t22
-add-t22 c = search needs
+add-t21 : tie.Need-add-t21
+add-t21 c = search needs
 
 returns-3 : tie.Need-returns-3
 returns-3 c =
@@ -91,18 +82,14 @@ returns-3 c =
     (rw (c .wide .ensures .0) (class-small (a .kind) (a .message .now) (a .at) known))
     (c .before .before .before .before .before .u16-at .ensures)
 
-cast-refuse-3 : tie.Need-cast-refuse-3
-cast-refuse-3 c = search needs
-
-refuse-requires-3 : tie.Need-refuse-requires-3
-refuse-requires-3 c κs = search needs
+cast-t23 : tie.Need-cast-t23
+cast-t23 c = search needs
 
 returns-4 : tie.Need-returns-4
 returns-4 c =
-    let a = c .before .before .before .before .before .before .before .before .before .before .before .args in
-    let l = c .before .before .before .before .before .least-of .ensures in
-    refused (a .kind) (a .message .now) (a .at) 38 _ (c .refuse3 .ensures)
-    (demanded-refused (a .kind) (a .message .now) (a .at) (four (c .before .before .before .before .before .before .before .before .before)) (sym (sized (c .before .before .before .before)) ∙ c .before .before .before .if2 .left) (eq-eqb _ 1 (c .before .if4 .taken)) (sym l ∙ c .before .before .if3 .left))
+    let a = c .before .before .before .before .before .before .before .before .before .before .args in
+    let l = c .before .before .before .before .least-of .ensures in
+    sym (demanded-refused (a .kind) (a .message .now) (a .at) (four (c .before .before .before .before .before .before .before .before)) (sym (sized (c .before .before .before)) ∙ c .before .before .if2 .left) (eq-eqb _ 1 (c .if4 .taken)) (sym l ∙ c .before .if3 .left))
 
 add-t9 : tie.Need-add-t9
 add-t9 c = search needs
@@ -122,8 +109,7 @@ object-at-spec =
     tie.close
     (tie.spec
     sub-left
-    cast-refuse
-    refuse-requires
+    cast-t11
     returns
     shared-slice-read-class
     add-second
@@ -133,14 +119,12 @@ object-at-spec =
     cast-n
     least-of-requires
     size-wrong-requires
-    cast-refuse-2
-    refuse-requires-2
+    cast-t18
     returns-2
     wide-requires
-    add-t22
+    add-t21
     returns-3
-    cast-refuse-3
-    refuse-requires-3
+    cast-t23
     returns-4
     add-t9
     returns-5)

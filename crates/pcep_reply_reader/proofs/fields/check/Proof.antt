@@ -12,7 +12,7 @@ use Rattle.pcep_laws.specs.Left.{Stands}
 use Rattle.pcep_ero.proofs.Addresses.{eight-each}
 use Rattle.pcep_reply_reader.specs.CheckedPcrep.{routeAt, restVerdict}
 use Rattle.pcep_reply_reader.proofs.Route.{route, route-stands, body-is}
-use Rattle.pcep_reply_reader.proofs.Checks.{list-short, rest-form, refused, by-frame, by-metric, by-rest, accepted, right-frame, passed, framed}
+use Rattle.pcep_reply_reader.proofs.Checks.{list-short, rest-form, by-frame, by-metric, by-rest, accepted, right-frame, passed, framed}
 use borrow.Author.Needs.{needs}
 use Rattle.pcep_reply_reader.proofs.fields.check.Statement.{statement}
 use Rattle.pcep_reply_reader.proofs.fields.check.Tie as tie
@@ -53,13 +53,10 @@ frame-requires c κs = search needs
 enum-known-first : tie.Need-enum-known-first
 enum-known-first c = search needs
 
-refused-requires : tie.Need-refused-requires
-refused-requires c κs = search needs
-
 returns : tie.Need-returns
 returns c =
-    let a = c .before .before .before .before .before .before .before .args in
-    refused (a .message .now) (a .address-room) (a .metric-room) _ _ (c .refused .ensures) (by-frame (a .message .now) (a .address-room) (a .metric-room) _ (sym (c .before .before .before .before .before .frame .ensures .verdict) ∙ c .before .before .first .given .1))
+    let a = c .before .before .before .before .before .before .args in
+    by-frame (a .message .now) (a .address-room) (a .metric-room) _ (sym (c .before .before .before .before .frame .ensures .verdict) ∙ c .before .first .given .1)
 
 enum-told : tie.Need-enum-told
 enum-told c = search needs
@@ -67,18 +64,12 @@ enum-told c = search needs
 judge-requires : tie.Need-judge-requires
 judge-requires c κs = let f = c .before .before .before .frame in passed (c .before .before .before .before .before .args .message .now) (f .result) (f .ensures) (c .enum-told .given .1)
 
-refuse-requires : tie.Need-refuse-requires
-refuse-requires c κs = search needs
-
-refused-requires-2 : tie.Need-refused-requires-2
-refused-requires-2 c κs = search needs
-
 returns-2 : tie.Need-returns-2
 returns-2 c =
-    let a = c .before .before .before .before .before .before .before .before .before .before .args in
+    let a = c .before .before .before .before .before .before .before .before .args in
     let s = a .message .now in
-    let f = c .before .before .before .before .before .before .before .before .frame in
-    refused s (a .address-room) (a .metric-room) _ _ (c .refused2 .ensures ∙ c .before .refuse .ensures) (by-metric s (a .address-room) (a .metric-room) (right-frame s (f .result) (f .ensures) (c .before .before .before .before .before .enum-told .given .1)) (λ e. c .before .before .if1 .taken (c .before .before .before .before .judge .ensures .wrong ∙ e)))
+    let f = c .before .before .before .before .before .before .frame in
+    by-metric s (a .address-room) (a .metric-room) (right-frame s (f .result) (f .ensures) (c .before .before .before .enum-told .given .1)) (λ e. c .if1 .taken (c .before .before .judge .ensures .wrong ∙ e))
 
 array-read-route-at : tie.Need-array-read-route-at
 array-read-route-at c = search needs
@@ -116,13 +107,8 @@ rest-verdict-requires c κs =
 enum-known-rest : tie.Need-enum-known-rest
 enum-known-rest c = search needs
 
-refused-requires-3 : tie.Need-refused-requires-3
-refused-requires-3 c κs = search needs
-
 returns-3 : tie.Need-returns-3
-returns-3 c =
-    let a = c .before .before .before .before .before .before .before .before .before .before .before .before .before .before .before .before .args in
-    refused (a .message .now) (a .address-room) (a .metric-room) _ _ (c .refused3 .ensures) (sym (c .before .before .rest .given .1) ∙ c .before .before .before .before .rest-verdict .ensures ∙ rest-is (c .before .before .before .before))
+returns-3 c = sym (c .before .before .before .rest-verdict .ensures ∙ rest-is (c .before .before .before)) ∙ c .before .rest .given .1
 
 enum-told-2 : tie.Need-enum-told-2
 enum-told-2 c = search needs
@@ -159,12 +145,9 @@ check-spec =
     (tie.spec
     frame-requires
     enum-known-first
-    refused-requires
     returns
     enum-told
     judge-requires
-    refuse-requires
-    refused-requires-2
     returns-2
     array-read-route-at
     cast-route-at
@@ -175,7 +158,6 @@ check-spec =
     list-in-requires
     rest-verdict-requires
     enum-known-rest
-    refused-requires-3
     returns-3
     enum-told-2
     address-count-requires

@@ -4,7 +4,6 @@ use mathlib.Core.Path.{_≡_, refl, sym, ap, _∙_}
 use mathlib.Core.Bool.{not}
 use native.Mathlib.Omega.{arith}
 use lib.Dec.{eqb}
-use Rattle.laws.proofs.Turns.{refuse-not-pass}
 use Rattle.pcep_model.specs.Metrics.{valueAt}
 use Rattle.pcep_model.specs.Pcreq.{judgedMetric, bitsAt}
 use Rattle.pcep_request_reader.proofs.Standing.{judged-stands, passed, framed}
@@ -24,21 +23,8 @@ frame-requires c κs = search needs
 enum-known-verdict : tie.Need-enum-known-verdict
 enum-known-verdict c = search needs
 
-untaken-requires : tie.Need-untaken-requires
-untaken-requires c κs = search needs
-
 returns : tie.Need-returns
-returns c =
-    let v = c .untaken .ensures in
-    let told = c .before .before .verdict .given .1 in
-    record {
-      verdict = v ∙ sym told ∙ c .before .before .before .before .before .frame .ensures .verdict;
-      passed = λ p. absurd (refuse-not-pass _ (sym v ∙ p));
-      fields = λ p. absurd (refuse-not-pass _ (sym v ∙ p));
-      bounded = λ p. absurd (refuse-not-pass _ (sym v ∙ p));
-      bound = λ p. absurd (refuse-not-pass _ (sym v ∙ p));
-      wrong = λ p. absurd (refuse-not-pass _ (sym v ∙ p));
-    }
+returns c = sym (c .before .before .before .before .frame .ensures .verdict) ∙ c .before .verdict .given .1
 
 enum-told : tie.Need-enum-told
 enum-told c = search needs
@@ -68,12 +54,12 @@ returns-2 c =
     let pass = c .before .before .before .before .before .enum-told .given .1 in
     let at = judged-is (c .before .before) in
     record {
-      verdict = sym pass ∙ f .ensures .verdict;
-      passed = λ p. passed s (f .result) (f .ensures) pass;
-      fields = λ p. c .before .before .before .fields-of .ensures;
-      bounded = λ p. ap (λ (x : ℕ). not (eqb x 0)) at;
-      bound = λ p. c .before .bits-at .ensures ∙ ap (λ (x : ℕ). bitsAt x (valueAt s x)) at;
-      wrong = λ p. ap (λ (x : ℕ). not (eqb x 0)) (c .before .before .before .before .judge .ensures .wrong);
+      verdict = sym (f .ensures .verdict) ∙ pass;
+      passed = passed s (f .result) (f .ensures) pass;
+      fields = c .before .before .before .fields-of .ensures;
+      bounded = ap (λ (x : ℕ). not (eqb x 0)) at;
+      bound = c .before .bits-at .ensures ∙ ap (λ (x : ℕ). bitsAt x (valueAt s x)) at;
+      wrong = ap (λ (x : ℕ). not (eqb x 0)) (c .before .before .before .before .judge .ensures .wrong);
     }
 
 pub take-apart-spec : {M : Type 1} → statement M
@@ -82,7 +68,6 @@ take-apart-spec =
     (tie.spec
     frame-requires
     enum-known-verdict
-    untaken-requires
     returns
     enum-told
     judge-requires

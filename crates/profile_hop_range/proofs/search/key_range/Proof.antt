@@ -28,7 +28,7 @@ add-lower-bound c =
     omega (
       arith,
       found .lower-bound .ensures .above first (omega arith) (omega arith),
-      key-small L s (λ (k : ℕ). known .shared-slice-known .given k .fits) (accepted L s (known .before .pre .0 .1)) first (omega arith),
+      key-small L s (λ (k : ℕ). known .shared-slice-known .given k .fits) (accepted L s (known .before .pre .0 .passed)) first (omega arith),
     )
 
 lower-bound-requires-2 : tie.Need-lower-bound-requires-2

@@ -5,7 +5,7 @@ use native.Mathlib.Omega.{arith}
 use denote.Ref.{now}
 use Rattle.laws.proofs.Accepted.{accepted}
 use Rattle.laws.proofs.Halving.{Bracket, Halves, bracket-start, bracket-halves}
-use Rattle.profile_check.proofs.Access.{hop-access}
+use Rattle.profile_records.proofs.AcceptedHops.{hop-inside}
 use Rattle.profile_records.specs.Layout.{layoutOf}
 use Rattle.profile_hop_range.proofs.Halving.{keyAt, keys-in-order, bracket-end}
 use Rattle.profile_hop_range.proofs.search.lower_bound.Statement.{statement}
@@ -29,7 +29,7 @@ halves c =
     let L = layoutOf (a .layout) in
     let s = now (a .s) in
     bracket-halves (keyAt L s) (a .from) (a .to) (a .key) (a .key) (l .low) (l .high) (l .low + (l .high - l .low) / 2)
-    (keys-in-order L s (λ (k : ℕ). known .shared-slice-known .given k .fits) (accepted L s (known .before .pre .0 .1)) (a .from) (a .to) (known .before .pre .1 .1))
+    (keys-in-order L s (λ (k : ℕ). known .shared-slice-known .given k .fits) (accepted L s (known .before .pre .0 .passed)) (a .from) (a .to) (known .before .pre .1 .1))
     (l .inv) (omega arith) (omega arith)
 
 loop-holds : tie.Need-loop-holds Inv-loop μ-loop
@@ -47,7 +47,7 @@ key-at-requires : tie.Need-key-at-requires Inv-loop μ-loop
 key-at-requires c κs =
     let at-start = c .before .before .before in
     let a = at-start .args in
-    hop-access (layoutOf (a .layout)) (now (a .s)) (at-start .pre .0 .1) (at-start .pre .0 .0) _ (omega arith)
+    hop-inside (layoutOf (a .layout)) (now (a .s)) (at-start .pre .0) _ (omega arith)
 
 add-low : tie.Need-add-low Inv-loop μ-loop
 add-low c = omega arith

@@ -20,8 +20,9 @@ u16-at-requires-2 c κs = search needs
 returns : tie.Need-returns
 unfolding headerWrong
 returns c =
-    let known = c .before .before .before in
-    rw (c .u16-at2 .ensures, c .before .u16-at .ensures, c .before .before .u32-at .ensures, high-field 3 1 (now (known .before .args .s)) 0 (λ (k : ℕ). known .shared-slice-known .given k .fits))
+    let reads = c .before in
+    let known = reads .before .before .before in
+    rw (reads .u16-at2 .ensures, reads .before .u16-at .ensures, reads .before .before .u32-at .ensures, high-field 3 1 (now (known .before .args .s)) 0 (λ (k : ℕ). known .shared-slice-known .given k .fits))
 
 pub header-wrong-spec : {M : Type 1} → statement M
 header-wrong-spec = tie.close (tie.spec u32-at-requires u16-at-requires u16-at-requires-2 returns)

@@ -33,15 +33,22 @@ add-u32-at-2 c = search needs
 u32-at-requires-3 : tie.Need-u32-at-requires-3
 u32-at-requires-3 c κs = search needs
 
+add-u32-at-3 : tie.Need-add-u32-at-3
+add-u32-at-3 c = search needs
+
+u32-at-requires-4 : tie.Need-u32-at-requires-4
+u32-at-requires-4 c κs = search needs
+
 returns : tie.Need-returns
 unfolding hopMalformed hopAt
 returns c =
-    let s = now (c .before .before .before .before .before .before .before .args .s) in
-    let at = c .before .before .before .before .hop-start .result in
-    let bytes : Bytes s = λ (k : ℕ). c .before .before .before .before .before .before .shared-slice-known .given k .fits in
-    let reads = c .before in
-    let starts = reads .before .before .before in
-    rw (reads .u32-at3 .ensures, reads .before .u32-at2 .ensures, reads .before .before .u32-at .ensures, high-field 2 2 s at bytes, low-field 2 2 s at bytes, starts .hop-start .ensures, starts .before .domain-count .ensures)
+    let reads = c .before .before in
+    let starts = reads .before .before .before .before in
+    let known = starts .before .before in
+    let s = now (known .before .args .s) in
+    let at = starts .hop-start .result in
+    let bytes : Bytes s = λ (k : ℕ). known .shared-slice-known .given k .fits in
+    rw (reads .u32-at4 .ensures, reads .before .u32-at3 .ensures, reads .before .before .u32-at2 .ensures, reads .before .before .before .u32-at .ensures, high-field 2 2 s at bytes, low-field 2 2 s at bytes, starts .hop-start .ensures, starts .before .domain-count .ensures)
 
 pub hop-malformed-spec : {M : Type 1} → statement M
 hop-malformed-spec =
@@ -55,4 +62,6 @@ hop-malformed-spec =
     u32-at-requires-2
     add-u32-at-2
     u32-at-requires-3
+    add-u32-at-3
+    u32-at-requires-4
     returns)

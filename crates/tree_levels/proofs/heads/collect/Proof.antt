@@ -10,7 +10,7 @@ use denote.Ref.{now}
 use lib.ListN.{length}
 use Rattle.model.specs.Profile.{hopCount, hopStart}
 use Rattle.profile_records.specs.Layout.{layoutOf, HopWithin}
-use Rattle.profile_check.proofs.Access.{hop-access}
+use Rattle.profile_records.proofs.AcceptedHops.{hop-inside}
 use Rattle.tree_levels.specs.Entries.{headsOf}
 use Rattle.tree_levels.proofs.Placing.{length-placed}
 use Rattle.tree_levels.proofs.Held.{Holds, heads-grow, holds-none, holds-known, holds-put, length-next, head-read, next-start}
@@ -39,7 +39,7 @@ hop-start-requires : tie.Need-hop-start-requires Inv-loop μ-loop
 hop-start-requires c κs =
     let a = c .before .before .args in
     let p = c .before .before .pre in
-    hop-access (layoutOf (a .layout)) (now (a .s)) (p .0 .1) (p .0 .0) (a .first) (omega arith)
+    hop-inside (layoutOf (a .layout)) (now (a .s)) (p .0) (a .first) (omega arith)
 
 loop-holds : tie.Need-loop-holds Inv-loop μ-loop
 loop-holds c =
@@ -53,7 +53,7 @@ inside
 inside c =
     let a = c .before .before .before .before .before .args in
     let p = c .before .before .before .before .before .pre in
-    hop-access (layoutOf (a .layout)) (now (a .s)) (p .0 .1) (p .0 .0) (c .before .loop .i) (omega arith)
+    hop-inside (layoutOf (a .layout)) (now (a .s)) (p .0) (c .before .loop .i) (omega arith)
 
 add-u32-at : tie.Need-add-u32-at Inv-loop μ-loop
 add-u32-at c =
