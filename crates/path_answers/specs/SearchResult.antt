@@ -4,7 +4,8 @@ use mathlib.Core.Bool.{true, false}
 use mathlib.Core.List.{List, head?}
 use mathlib.Core.Option.{none, some}
 use Prim.Native.Nat.{ℕ}
-use lib.ListN.{length, take}
+use lib.ListN.{length, take, replicate}
+use Rattle.model.specs.declared.Round.{Round}
 use Rattle.model.specs.Request.{Search}
 use Rattle.model.specs.Path.{Route, shortestPaths}
 use Rattle.model.specs.Calls.{greaterThan}
@@ -17,7 +18,12 @@ pub record ResultPath (S : Search) (given : List ℕ) (long : ℕ) (r : SearchRe
   pub total-is : path .total ≡ r .total
   pub addresses-are : path .addresses ≡ take long (r .path)
 
+-- nothing found in a round
+abbrev pub nothingIn : Round → SearchResult
+nothingIn x = record { round = x; found = false; total = 0; path = replicate 17 0 }
+
 pub record ResultIs (S : Search) (given : List ℕ) (long : ℕ) (r : SearchResult) : Type 0 where
   pub there : r .found ≡ true → ResultPath S given long r
   pub missing : r .found ≡ false → head? (greaterThan given (shortestPaths S)) ≡ none
+  pub nothing-else : r .found ≡ false → r ≡ nothingIn (r .round)
   pub cells : length (r .path) ≡ 17

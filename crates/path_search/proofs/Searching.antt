@@ -6,7 +6,7 @@ use mathlib.Core.List.{List, [], _∷_, head?}
 use mathlib.Core.Option.{Option, none, some}
 use Prim.Native.Nat.{ℕ, suc, _+_, _≤_, _<_}
 use native.Mathlib.Omega.{arith}
-use lib.ListN.{length, take, drop, getD}
+use lib.ListN.{replicate, length, take, drop, getD}
 use lib.Seq.{length-paste, take-at}
 use borrow.Author.Tests.{eq-eqb, ne-eqb}
 use Rattle.model.specs.Lists.{isEmpty, below, keep}
@@ -112,15 +112,21 @@ module _ (L : Layout) (s exclude : List ℕ) (q : Query) (cheap : L .mostCost �
           suffix-length S (legs (S .sequence)) 0 (S .source) r ((cheapest-mem (suffixes S (legs (S .sequence)) 0 (S .source)) k) .0)
           ∙ ap suc (length-legs (S .sequence) ∙ long)
 
+      found-none : (o : Option Route) → isFound o ≡ false → o ≡ none
+      found-none none e = refl
+      found-none (some r) e = absurd (true≢false e)
+
       -- what was found and written is what is sought
       pub sought
           : (old : List ℕ) (found : Bool) (path : List ℕ) → length old ≡ 17
           → Written 0 (nextFrom S (legs (S .sequence)) 0 (S .source) given) old found path
-          → ResultIs S given (suc (q .count)) (record { round = q .round; found = found; total = here; path = path })
-      sought old found path cells w =
+          → found ≡ true
+          → ResultIs S given (suc (q .count)) (record { round = q .round; found = true; total = here; path = path })
+      sought old found path cells w told =
           record {
-            there = λ t. there-is (nextFrom S (legs (S .sequence)) 0 (S .source) given) refl (sym (w .says) ∙ t);
-            missing = λ f. first-is ∙ missing-is (nextFrom S (legs (S .sequence)) 0 (S .source) given) (sym (w .says) ∙ f);
+            there = λ t. there-is (nextFrom S (legs (S .sequence)) 0 (S .source) given) refl (sym (w .says) ∙ told);
+            missing = λ f. absurd (true≢false f);
+            nothing-else = λ f. absurd (true≢false f);
             cells = ap length (w .holds) ∙ held (nextFrom S (legs (S .sequence)) 0 (S .source) given) refl ∙ cells;
           }
         where
@@ -128,13 +134,9 @@ module _ (L : Layout) (s exclude : List ℕ) (q : Query) (cheap : L .mostCost �
           held none e = refl
           held (some r) e = length-paste old 0 (r .addresses) (length (r .addresses)) (omega (arith, size r e, cells, ready .most)) (omega arith)
 
-          missing-is : (o : Option Route) → isFound o ≡ false → o ≡ none
-          missing-is none e = refl
-          missing-is (some r) e = absurd (true≢false e)
-
           there-is
               : (o : Option Route) → nextFrom S (legs (S .sequence)) 0 (S .source) given ≡ o → isFound o ≡ true
-              → ResultPath S given (suc (q .count)) (record { round = q .round; found = found; total = here; path = path })
+              → ResultPath S given (suc (q .count)) (record { round = q .round; found = true; total = here; path = path })
           there-is none e t = absurd (true≢false (sym t))
           there-is (some r) e t =
               record {
@@ -146,6 +148,22 @@ module _ (L : Layout) (s exclude : List ℕ) (q : Query) (cheap : L .mostCost �
                     (ap (take (suc (q .count))) (w .holds ∙ ap (λ (x : Option Route). routed 0 x old) e ∙ pasted old 0 (r .addresses))
                     ∙ take-at (r .addresses) (drop (0 + length (r .addresses)) old) (suc (q .count)) (size r e));
               }
+
+      -- and nothing where nothing was
+      pub none-above
+          : (old : List ℕ) (found : Bool) (path : List ℕ) → old ≡ replicate 17 0
+          → Written 0 (nextFrom S (legs (S .sequence)) 0 (S .source) given) old found path
+          → found ≡ false
+          → ResultIs S given (suc (q .count)) (record { round = q .round; found = false; total = 0; path = path })
+      none-above old found path zeros w told =
+          let none-is = found-none (nextFrom S (legs (S .sequence)) 0 (S .source) given) (sym (w .says) ∙ told) in
+          let same : path ≡ replicate 17 0 = w .holds ∙ ap (λ (o : Option Route). routed 0 o old) none-is ∙ zeros in
+          record {
+            there = λ t. absurd (true≢false (sym t));
+            missing = λ f. first-is ∙ none-is;
+            nothing-else = λ f. ap {B = SearchResult} (λ (p : List ℕ). record { round = q .round; found = false; total = 0; path = p }) same;
+            cells = ap length same;
+          }
 
 -- a query whose round is settled: what is found for it is what is sought for the given one
 module _ (L : Layout) (s exclude : List ℕ) (q : Query) (addresses codes starts firsts lasts : List ℕ) (r : ChosenRound) (is : ChosenRoundIs L s exclude q addresses codes starts firsts lasts r) where

@@ -151,9 +151,17 @@ pub fn search(s: &[u8], layout: Layout, exclude: &[u8], q: Query, given: &[u32])
         given,
         &mut path,
     );
+    if !found {
+        return SearchResult {
+            round,
+            found: false,
+            total: 0,
+            path,
+        };
+    }
     SearchResult {
         round,
-        found,
+        found: true,
         total: here,
         path,
     }

@@ -136,4 +136,5 @@ module _
                 let m = (keep-mem (λ (x : Hop). isWanted which (x .head .0)) (shortestAt S i a) (head?-mem (wantedHops which (shortestAt S i a)) first-is)) .0 in
                 record { hop = k .0; first = first-is; head-is = k .2; stands = head-stands (k .0) m (r .head) (r .reach) (k .2) (k .3) };
             missing = λ e. ap head? (sym (taken-wanted first last range)) ∙ f .missing e;
+            nothing-else = f .nothing-else;
           }

@@ -13,7 +13,7 @@ use Rattle.model.specs.Floats.{atLeast}
 use Rattle.model.specs.Request.{Search}
 use Rattle.model.specs.Path.{Leg, legs, legAt}
 use Rattle.laws.specs.Descent.{onShortest, shortestHops}
-use Rattle.tree_reaches.specs.Reaches.{reachOf, beside}
+use Rattle.tree_reaches.specs.Reaches.{unreachable, reachOf, beside}
 use Rattle.path_step.specs.declared.Heads.{Heads}
 use Rattle.path_step.specs.declared.Heads.the-variants.{Any, Only, Above}
 use Rattle.path_step.specs.declared.Onward.{Onward}
@@ -40,10 +40,15 @@ legsFrom S i = drop i (legs (S .sequence))
 abbrev pub shortestAt : Search → ℕ → ℕ → List Hop
 shortestAt S i a = shortestHops S (legAt S i) (legsFrom S (suc i)) i a
 
+-- no hop record
+abbrev pub noHop : Onward
+noHop = record { found = false; head = record { 0 = 0 }; reach = unreachable }
+
 -- the first taken of some hop records, as the code has it
 pub record FirstTaken (asked : Float) (here : ℕ) (which : Heads) (nodes codes : List ℕ) (hs : List Hop) (r : Onward) : Type 0 where
   pub there : r .found ≡ true → (h : Hop) × (head? (keep (isTaken asked here which nodes codes) hs) ≡ some h) × (h .head ≡ r .head) × (r .reach ≡ beside nodes codes (h .head .0))
   pub missing : r .found ≡ false → head? (keep (isTaken asked here which nodes codes) hs) ≡ none
+  pub nothing-else : r .found ≡ false → r ≡ noHop
 
 -- the first wanted hop on a shortest way from an address at place i: its head, and the number there
 pub record HopOn (S : Search) (i a : ℕ) (which : Heads) (r : Onward) : Type 0 where
@@ -55,3 +60,4 @@ pub record HopOn (S : Search) (i a : ℕ) (which : Heads) (r : Onward) : Type 0 
 pub record OnwardIs (S : Search) (i a : ℕ) (which : Heads) (r : Onward) : Type 0 where
   pub there : r .found ≡ true → HopOn S i a which r
   pub missing : r .found ≡ false → head? (wantedHops which (shortestAt S i a)) ≡ none
+  pub nothing-else : r .found ≡ false → r ≡ noHop

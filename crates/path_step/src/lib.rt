@@ -20,7 +20,7 @@ ghost use Rattle.laws.specs.Descent.{onShortest};
 ghost use Rattle.profile_records.specs.Layout.{layoutOf, RightProfile};
 ghost use Rattle.tree_reaches.specs.Reaches.{unreachable, reachOf, Small, beside, NextPlace};
 ghost use Rattle.path_step.specs.Worked.{Worked, Stands, Ways};
-ghost use Rattle.path_step.specs.Onward.{isWanted, isTaken, FirstTaken, OnwardIs};
+ghost use Rattle.path_step.specs.Onward.{isWanted, isTaken, noHop, FirstTaken, OnwardIs};
 
 // Which heads are wanted.
 pub enum Heads {
@@ -37,7 +37,7 @@ pub struct Onward {
 }
 
 fn nowhere() -> Onward
-    ensures { λ r. ⌜ r .found ≡ false ⌝ }
+    ensures { λ r. ⌜ r ≡ noHop ⌝ }
 {
     Onward {
         found: false,
@@ -81,7 +81,7 @@ fn tried(
     requires { ⌜ (h .cost ≤ costLimit) × (inRange asked ≡ true) × (inRange (h .bandwidth) ≡ true) × (here < unreachable) ⌝ }
     requires { ⌜ NextPlace (now addresses) (now reaches) from to ⌝ }
     ensures { λ r. ⌜ r .found ≡ isTaken asked here which (slice from to (now (addresses .entry))) (slice from to (now (reaches .entry))) h ⌝ }
-    ensures { λ r. ⌜ (r .found ≡ true → (h .head ≡ r .head) × (r .reach ≡ beside (slice from to (now (addresses .entry))) (slice from to (now (reaches .entry))) (h .head .0))) ⌝ }
+    ensures { λ r. ⌜ (r .found ≡ true → (h .head ≡ r .head) × (r .reach ≡ beside (slice from to (now (addresses .entry))) (slice from to (now (reaches .entry))) (h .head .0))) × (r .found ≡ false → r ≡ noHop) ⌝ }
 {
     let head = h.head;
     if !wanted(which, head) {
@@ -91,8 +91,14 @@ fn tried(
         return nowhere();
     }
     let reach = reach_of(addresses, reaches, from, to, head);
-    let found = on_shortest(h, here, reach);
-    Onward { found, head, reach }
+    if !on_shortest(h, here, reach) {
+        return nowhere();
+    }
+    Onward {
+        found: true,
+        head,
+        reach,
+    }
 }
 
 // The first of some hop records that is taken.

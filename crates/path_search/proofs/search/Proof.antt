@@ -13,7 +13,7 @@ use Rattle.request.specs.Query.{searchFor, Ready}
 use Rattle.tree_reaches.specs.Reaches.{codeAt}
 use Rattle.path_step.specs.Worked.{Worked}
 use Rattle.tree_rounds.proofs.Source.{source-number}
-use Rattle.path_search.proofs.Searching.{worked-for, stands, some-way, sought-none, sought, ready-settled, fits-settled, sought-for}
+use Rattle.path_search.proofs.Searching.{worked-for, stands, some-way, sought-none, sought, none-above, ready-settled, fits-settled, sought-for}
 use Rattle.path_search.proofs.search.Statement.{statement}
 use Rattle.path_search.proofs.search.Tie as tie
 
@@ -70,6 +70,7 @@ returns c =
           λ e.
           sought-none (layoutOf (a .layout)) (a .s .now) (a .exclude .now) (settled at) (start .pre .0 .0 .cheap) (bytes at) (ready at) _ (here-is at) (a .given .now)
           (sym (c .before .admissible .ensures) ∙ not-true (c .before .admissible .result) (c .if1 .taken));
+      nothing-else = λ e. refl;
       cells = refl;
     })
 
@@ -94,16 +95,29 @@ above-requires c κs =
 
 returns-2 : tie.Need-returns-2
 returns-2 c =
-    let start = c .before .before .before .before .before .before .before .before .before .before .before .before .before .before .before .before .before .before .before .before .before in
+    let start = c .before .before .before .before .before .before .before .before .before .before .before .before .before .before .before .before .before .before .before .before .before .before in
     let a = start .args in
     let pre = start .pre in
-    let at = c .before .before .before .before .before .before .before .before .before .before .before .before in
-    let kept = sym (c .before .before .before .before .before .before .before .before .before .admissible .ensures) ∙ not-false (c .before .before .before .before .before .before .before .before .before .admissible .result) (c .before .before .before .before .before .before .before .before .if1 .left) in
+    let at = c .before .before .before .before .before .before .before .before .before .before .before .before .before in
+    let kept = sym (c .before .before .before .before .before .before .before .before .before .before .admissible .ensures) ∙ not-false (c .before .before .before .before .before .before .before .before .before .before .admissible .result) (c .before .before .before .before .before .before .before .before .before .if1 .left) in
+    let way = some-way (layoutOf (a .layout)) (a .s .now) (a .exclude .now) (settled at) (pre .0 .0 .cheap) (bytes at) (ready at) _ (here-is at) (a .given .now) kept in
+    sought-for (layoutOf (a .layout)) (a .s .now) (a .exclude .now) (a .q) _ _ _ _ _ _ (at .settle .ensures) (a .given .now) _ refl
+    (none-above (layoutOf (a .layout)) (a .s .now) (a .exclude .now) (settled at) (pre .0 .0 .cheap) (bytes at) (ready at) _ (here-is at) (a .given .now) kept _ _ _ refl
+    (c .before .before .above .ensures (searchFor (layoutOf (a .layout)) (a .s .now) (a .exclude .now) (settled at)) (worked at)
+    (stands (layoutOf (a .layout)) (a .s .now) (a .exclude .now) (settled at) (pre .0 .0 .cheap) (bytes at) (ready at) _ (here-is at) way)) (not-true _ (c .if2 .taken)))
+
+returns-3 : tie.Need-returns-3
+returns-3 c =
+    let start = c .before .before .before .before .before .before .before .before .before .before .before .before .before .before .before .before .before .before .before .before .before .before in
+    let a = start .args in
+    let pre = start .pre in
+    let at = c .before .before .before .before .before .before .before .before .before .before .before .before .before in
+    let kept = sym (c .before .before .before .before .before .before .before .before .before .before .admissible .ensures) ∙ not-false (c .before .before .before .before .before .before .before .before .before .before .admissible .result) (c .before .before .before .before .before .before .before .before .before .if1 .left) in
     let way = some-way (layoutOf (a .layout)) (a .s .now) (a .exclude .now) (settled at) (pre .0 .0 .cheap) (bytes at) (ready at) _ (here-is at) (a .given .now) kept in
     sought-for (layoutOf (a .layout)) (a .s .now) (a .exclude .now) (a .q) _ _ _ _ _ _ (at .settle .ensures) (a .given .now) _ refl
     (sought (layoutOf (a .layout)) (a .s .now) (a .exclude .now) (settled at) (pre .0 .0 .cheap) (bytes at) (ready at) _ (here-is at) (a .given .now) kept _ _ _ refl
-    (c .before .above .ensures (searchFor (layoutOf (a .layout)) (a .s .now) (a .exclude .now) (settled at)) (worked at)
-    (stands (layoutOf (a .layout)) (a .s .now) (a .exclude .now) (settled at) (pre .0 .0 .cheap) (bytes at) (ready at) _ (here-is at) way)))
+    (c .before .before .above .ensures (searchFor (layoutOf (a .layout)) (a .s .now) (a .exclude .now) (settled at)) (worked at)
+    (stands (layoutOf (a .layout)) (a .s .now) (a .exclude .now) (settled at) (pre .0 .0 .cheap) (bytes at) (ready at) _ (here-is at) way)) (not-false _ (c .if2 .left)))
 
 pub search-spec : {M : Type 1} → statement M
 search-spec =
@@ -115,4 +129,5 @@ search-spec =
     returns
     slice-aggregate-above
     above-requires
-    returns-2)
+    returns-2
+    returns-3)

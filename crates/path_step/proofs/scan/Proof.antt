@@ -15,6 +15,7 @@ use Rattle.laws.proofs.BigEndian.{number-bound}
 use Rattle.laws.proofs.Tests.{clash}
 use Rattle.profile_records.specs.Layout.{layoutOf}
 use Rattle.tree_reaches.specs.Reaches.{beside}
+use Rattle.path_step.specs.declared.Onward.{Onward}
 use Rattle.path_step.specs.Onward.{isTaken}
 use Rattle.path_step.proofs.Turns.{first-here, first-later, first-of-none}
 use Rattle.path_step.proofs.scan.Statement.{statement}
@@ -65,7 +66,7 @@ returns c =
     let start = c .before .before .before .before .before .before .before .before in
     let a = start .args in
     let l = c .before .before .before .before .loop in
-    let t = c .before .tried .ensures .1 (c .if1 .taken) in
+    let t = c .before .tried .ensures .1 .0 (c .if1 .taken) in
     let is = c .before .before .accepted-hop .ensures .is in
     record {
       there =
@@ -79,6 +80,7 @@ returns c =
                 ∙ ap (λ (x : Hop). beside (slice (a .from) (a .to) (a .addresses .now)) (slice (a .from) (a .to) (a .reaches .now)) (x .head .0)) is,
           );
       missing = λ e. clash (c .if1 .taken) e;
+      nothing-else = λ e. clash (c .if1 .taken) e;
     }
 
 add-i : tie.Need-add-i Inv-loop μ-loop
@@ -113,12 +115,13 @@ returns-2 c =
     let l = c .before .before .loop in
     let e : l .i ≡ a .range .last = omega arith in
     record {
-      there = λ t. clash t (c .nowhere .ensures);
+      there = λ t. clash t (ap (λ (r : Onward). r .found) (c .nowhere .ensures));
       missing =
           λ f.
           l .inv .1
           ∙ ap (λ (n : ℕ). head? (keep (passes start) (slice n (a .range .last) (hops (layoutOf (a .layout)) (a .s .now))))) e
           ∙ first-of-none (passes start) (layoutOf (a .layout)) (a .s .now) (a .range .last);
+      nothing-else = λ f. c .nowhere .ensures;
     }
 
 pub scan-spec : {M : Type 1} → statement M
