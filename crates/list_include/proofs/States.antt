@@ -18,19 +18,19 @@ use Rattle.model.specs.Sequence as M
 use Rattle.model.specs.WrittenList.{pinIf}
 use Rattle.model.specs.Calls.{pinMark, pinNode}
 use Rattle.laws.proofs.Tests.{refuted}
+use Rattle.laws.proofs.Turns.{refuse-not-pass}
 use Rattle.laws.proofs.Lists.{map-append, map-mem, mem-map, countFrom-mem, mem-countFrom, any-mem, mem-any}
 use Rattle.laws.proofs.Stops.{stops-length}
 use borrow.Author.Tests.{eq-eqb, ne-eqb, eqb-true, le-leb, lt-leb}
-use Rattle.model.specs.declared.Verdict.{Verdict}
+use Rattle.model.specs.declared.Refusal.{Refusal}
 use Rattle.model.specs.declared.Verdict.the-variants.{Pass}
-use Rattle.model.specs.Request.{provided}
 use Rattle.laws.specs.Stops.{stopsOf, domainIn, nodeIn}
-use Rattle.refusal.specs.Refused.{refusal}
 use Rattle.list_include.specs.declared.state.Waiting.{Waiting}
 use Rattle.list_include.specs.declared.state.Waiting.the-variants as Variant
 use Rattle.list_include.specs.declared.state.State.{State}
+use Rattle.list_include.specs.declared.state.ReadStep.{ReadStep}
 use Rattle.list_include.specs.NamedDomain.{foundOf}
-use Rattle.list_include.specs.Reading.{waitingOf, stateStop, stateStops, stateOf, Clean, SoundState, StateIs, ReadStepIs, nameFound}
+use Rattle.list_include.specs.Reading.{waitingOf, stateStop, stateStops, stateOf, Clean, SoundState, StateIs, ReadAs, ReadStepIs, refusedBy, nameFound}
 use Rattle.list_include.proofs.Hits.{count-snoc}
 
 pub map-agree : {A B : Type 0} (f g : A → B) (xs : List A) → ((x : A) → List·Memᴰ x xs → f x ≡ g x) → map f xs ≡ map g xs
@@ -152,18 +152,27 @@ named-found at st (d ∷ e ∷ rest) = refl
 
 -- ---- steps
 
--- a refused step leaves the state as it was
-pub stepped-refused
-    : (st : State) (v : Verdict) (n at : ℕ) (m : M.Reading M.State) → SoundState st → v ≡ refusal n at → m ≡ M.refuse n at
-    → ReadStepIs (record { verdict = v; state = st }) m
-stepped-refused st v n at m sound e q =
-    record { means = ap (λ (w : Verdict). provided w (M.good (stateOf st))) e ∙ sym q; sound = sound }
+-- a refused step carries the refusal and nothing else
+pub step-refused
+    : {A : Type 0} (read : State → A) (r : ReadStep) (x : Refusal) (m : M.Reading A) → r ≡ refusedBy x → m ≡ M.refused x → ReadAs read r m
+step-refused read r x m e q =
+    subst (λ (s : ReadStep). ReadAs read s m) (sym e)
+    (record {
+      means = sym q;
+      sound = λ p. absurd (refuse-not-pass x p);
+      none = λ y p. let same : x ≡ y = cc in ap refusedBy same;
+    })
 
 -- a step that passes
+pub step-passed
+    : {A : Type 0} (read : State → A) (st : State) (m : M.Reading A) → SoundState st → m ≡ M.good (read st)
+    → ReadAs read (record { verdict = Pass; state = st }) m
+step-passed read st m s q = record { means = sym q; sound = λ p. s; none = λ x p. absurd (refuse-not-pass x (sym p)) }
+
 pub stepped-on
     : (st : State) (next : M.State) (m : M.Reading M.State) → StateIs st next → m ≡ M.good next
     → ReadStepIs (record { verdict = Pass; state = st }) m
-stepped-on st next m s q = record { means = ap M.good (s .means) ∙ sym q; sound = s .sound }
+stepped-on st next m s q = step-passed stateOf st m (s .sound) (q ∙ sym (ap M.good (s .means)))
 
 module _ (at : ℕ) (st : M.State) (d : ℕ) where
   pub enter-here : d ≡ st .here → M.enter at st d ≡ M.good st

@@ -2,7 +2,9 @@
 use mathlib.Core.Path.{_≡_}
 use mathlib.Core.List.{List, [], _∷_}
 use Prim.Native.Nat.{ℕ, _-_, _≤_, _<_}
-use lib.ListN.{length, getD}
+use lib.ListN.{length, getD, replicate}
+use Rattle.model.specs.declared.Refusal.{Refusal}
+use Rattle.model.specs.declared.Verdict.the-variants.{Pass, Refuse}
 use Rattle.model.specs.Subobject.{Subobject}
 use Rattle.model.specs.Sequence as M
 use Rattle.model.specs.WrittenList.{pinIf}
@@ -61,10 +63,31 @@ pub record StateIs (st : State) (m : M.State) : Type 0 where
   pub means : stateOf st ≡ m
   pub sound : SoundState st
 
--- a step: refused, or a sound state that stands for the next one
-pub record ReadStepIs (r : ReadStep) (m : M.Reading M.State) : Type 0 where
-  pub means : provided (r .verdict) (M.good (stateOf (r .state))) ≡ m
-  pub sound : SoundState (r .state)
+-- a refusal, with a state of no domains
+abbrev pub refusedBy : Refusal → ReadStep
+refusedBy x =
+    record {
+      verdict = Refuse x;
+      state =
+          record {
+            asn = 0;
+            count = 0;
+            domains = replicate 16 (record { 0 = 0 });
+            pinned = replicate 16 0;
+            pins = replicate 16 (record { 0 = 0 });
+            waiting = Waiting.Nothing;
+          };
+    }
+
+-- what is read of the state, a sound one, or the refusal and nothing else
+pub record ReadAs {A : Type 0} (read : State → A) (r : ReadStep) (m : M.Reading A) : Type 0 where
+  pub means : provided (r .verdict) (M.good (read (r .state))) ≡ m
+  pub sound : r .verdict ≡ Pass → SoundState (r .state)
+  pub none : (x : Refusal) → r .verdict ≡ Refuse x → r ≡ refusedBy x
+
+-- a step: refused, or a state that stands for the next one
+abbrev pub ReadStepIs : ReadStep → M.Reading M.State → Type 0
+ReadStepIs = ReadAs stateOf
 
 -- what naming a domain does, by what was found
 abbrev pub nameFound : ℕ → M.State → NamedDomain → M.Reading M.State
@@ -72,7 +95,6 @@ nameFound at st NamedDomain.Nothing = M.refuse 28 at
 nameFound at st (NamedDomain.One d) = M.enter at st (d .0)
 nameFound at st NamedDomain.Several = M.refuse 29 at
 
--- the meaning of a list: refused, or a sound state whose sequence it is
-pub record MeaningIs (r : ReadStep) (m : M.Reading (List M.Stop)) : Type 0 where
-  pub means : provided (r .verdict) (M.good (stateStops (r .state))) ≡ m
-  pub sound : SoundState (r .state)
+-- the meaning of a list: refused, or a state whose sequence it is
+abbrev pub MeaningIs : ReadStep → M.Reading (List M.Stop) → Type 0
+MeaningIs = ReadAs stateStops

@@ -5,6 +5,7 @@ use crate::state::ReadStep;
 use crate::state::State;
 use crate::state::Waiting;
 use crate::state::name_found;
+use crate::state::refused;
 use crate::state::wait_for;
 use crate::state::with_asn;
 use list_subobject::item::Item;
@@ -108,13 +109,10 @@ fn finished(st: State) -> ReadStep
             verdict: Verdict::Pass,
             state: st,
         },
-        Waiting::Node { offset, node: _ } => ReadStep {
-            verdict: Verdict::Refuse(Refusal {
-                number: 32,
-                place: offset,
-            }),
-            state: st,
-        },
+        Waiting::Node { offset, node: _ } => refused(Refusal {
+            number: 32,
+            place: offset,
+        }),
     }
 }
 
@@ -132,10 +130,7 @@ pub fn read_list(profile: &[u8], ingress: DomainIndex, list: &[u8]) -> ReadStep
         let stepped = read_item(profile, list, st, item, area_at(list, next));
         let verdict = stepped.verdict;
         if let Verdict::Refuse(r) = verdict {
-            return ReadStep {
-                verdict: Verdict::Refuse(r),
-                state: st,
-            };
+            return refused(r);
         }
         st = stepped.state;
         at = next;

@@ -2,14 +2,14 @@
 use crate::named_domains::NamedDomain;
 use model::DomainIndex;
 use model::NodeAddress;
+use model::Refusal;
 use model::Verdict;
-use refusal::refuse_at;
 ghost use mathlib.Core.Path.{_≡_};
 ghost use Prim.Native.Nat.{_≤_, _<_};
 ghost use Rattle.model.specs.Lists.{among};
 ghost use Rattle.model.specs.Sequence.{domainsOf, added, enter, wait, withSystem, pinOf};
 ghost use Rattle.model.specs.Calls.{pinMark, pinNode};
-ghost use Rattle.list_include.specs.Reading.{waitingOf, stateStops, stateOf, SoundState, StateIs, ReadStepIs, nameFound};
+ghost use Rattle.list_include.specs.Reading.{waitingOf, stateStops, stateOf, SoundState, StateIs, ReadStepIs, refusedBy, nameFound};
 
 // An entry constraint that waits for the next new domain: the offset of its subobject, and the node.
 pub enum Waiting {
@@ -27,10 +27,37 @@ pub struct State {
     pub waiting: Waiting,
 }
 
-// The state after a step, and whether the step was refused. Of a refused step nobody reads the state, and only that it is sound is promised.
+// The state after a step, or that the step is refused, with a state of no domains.
 pub struct ReadStep {
     pub verdict: Verdict,
     pub state: State,
+}
+
+pub fn refused(r: Refusal) -> ReadStep
+    ensures { λ x. ⌜ x ≡ refusedBy r ⌝ }
+{
+    ReadStep {
+        verdict: Verdict::Refuse(r),
+        state: State {
+            asn: 0,
+            count: 0,
+            domains: [DomainIndex(0); 16],
+            pinned: [0u8; 16],
+            pins: [NodeAddress(0); 16],
+            waiting: Waiting::Nothing,
+        },
+    }
+}
+
+// Refused by this number, at an offset of the list.
+fn refused_at(number: u32, at: usize) -> ReadStep
+    requires { ⌜ at ≤ 1024 ⌝ }
+    ensures { λ x. ⌜ x ≡ refusedBy (record { number = number; place = at }) ⌝ }
+{
+    refused(Refusal {
+        number,
+        place: at as u32,
+    })
 }
 
 fn mark_of(waiting: Waiting) -> u8
@@ -104,16 +131,10 @@ fn enter_domain(st: State, at: usize, d: DomainIndex) -> ReadStep
         };
     }
     if holds(st, d) {
-        return ReadStep {
-            verdict: refuse_at(30, at),
-            state: st,
-        };
+        return refused_at(30, at);
     }
     if 16 <= count {
-        return ReadStep {
-            verdict: refuse_at(31, at),
-            state: st,
-        };
+        return refused_at(31, at);
     }
     ReadStep {
         verdict: Verdict::Pass,
@@ -127,15 +148,9 @@ pub fn name_found(st: State, at: usize, found: NamedDomain) -> ReadStep
     ensures { λ r. ⌜ ReadStepIs r (nameFound at (stateOf st) found) ⌝ }
 {
     match found {
-        NamedDomain::Nothing => ReadStep {
-            verdict: refuse_at(28, at),
-            state: st,
-        },
+        NamedDomain::Nothing => refused_at(28, at),
         NamedDomain::One { domain } => enter_domain(st, at, domain),
-        NamedDomain::Several => ReadStep {
-            verdict: refuse_at(29, at),
-            state: st,
-        },
+        NamedDomain::Several => refused_at(29, at),
     }
 }
 
@@ -146,10 +161,7 @@ pub fn wait_for(st: State, at: usize, node: NodeAddress) -> ReadStep
 {
     let waiting = st.waiting;
     match waiting {
-        Waiting::Node { offset: _, node: _ } => ReadStep {
-            verdict: refuse_at(32, at),
-            state: st,
-        },
+        Waiting::Node { offset: _, node: _ } => refused_at(32, at),
         Waiting::Nothing => {
             let domains = st.domains;
             let pinned = st.pinned;

@@ -13,8 +13,9 @@ use Rattle.laws.specs.Left.{formLeft, subobjectsLeft}
 use Rattle.laws.proofs.Walk.{form-whole, right-here, right-next}
 use Rattle.model.specs.Subobject.{subobjectVerdict, subobjectAt, lengthAt}
 use Rattle.list_subobject.specs.Items.{ItemAt}
-use Rattle.list_include.specs.Reading.{stateOf, SoundState, MeaningIs}
+use Rattle.list_include.specs.Reading.{stateStops, stateOf, SoundState, MeaningIs}
 use Rattle.list_subobject.proofs.FormLaws.{readable}
+use Rattle.list_include.proofs.States.{step-refused}
 use Rattle.list_include.proofs.Includes.{read-here, read-passed, read-refused, read-end, read-start}
 use Rattle.list_include.proofs.read_list.Statement.{statement}
 use Rattle.list_include.proofs.read_list.Tie as tie
@@ -88,18 +89,19 @@ read-item-requires c κs =
 enum-known-verdict : tie.Need-enum-known-verdict Inv-loop μ-loop
 enum-known-verdict c = search needs
 
+refused-requires : tie.Need-refused-requires Inv-loop μ-loop
+refused-requires c κs = search needs
+
 returns : tie.Need-returns Inv-loop μ-loop
 returns c =
-    let a = c .before .before .before .before .before .before .before .before .before .before .before .args in
-    let l = c .before .before .before .before .before .before .before .loop in
-    record {
-      means =
-          sym
-          (sym (meant (c .before .before .before .before .before .before .before))
-          ∙ read-refused (readingInput (a .profile .now)) (a .list .now) (l .at) (stateOf (l .st)) (c .before .before .before .before .before .before .loop-test .taken) (l .inv .2) _
-          (sym (ap (λ (v : Verdict). provided v (M.good (stateOf (c .before .before .before .read-item .result .state)))) (c .before .verdict .given .1)) ∙ stepped (c .before .before .before)));
-      sound = l .inv .1;
-    }
+    let a = c .before .before .before .before .before .before .before .before .before .before .before .before .args in
+    let turn = c .before .before .before .before .before .before .before .before in
+    let l = turn .loop in
+    let told = c .before .before .before .before in
+    step-refused stateStops _ _ _ (c .refused .ensures)
+    (sym (meant turn)
+    ∙ read-refused (readingInput (a .profile .now)) (a .list .now) (l .at) (stateOf (l .st)) (c .before .before .before .before .before .before .before .loop-test .taken) (l .inv .2) _
+    (sym (ap (λ (v : Verdict). provided v (M.good (stateOf (told .read-item .result .state)))) (c .before .before .verdict .given .1)) ∙ stepped told))
 
 enum-told : tie.Need-enum-told Inv-loop μ-loop
 enum-told c = search needs
@@ -122,7 +124,7 @@ loop-again c =
     let on : M.good (stateOf (c .before .before .before .read-item .result .state)) ≡ M.readOne R (stateOf (l .st)) (subobjectAt s (l .at)) (M.areaNext (subobjectsLeft s (l .at + lengthAt s (l .at)))) =
     sym (ap (λ (v : Verdict). provided v (M.good (stateOf (c .before .before .before .read-item .result .state)))) (c .before .enum-told .given .1)) ∙ stepped (c .before .before .before) in (
       inside,
-      (c .before .before .before .read-item .ensures) .sound,
+      c .before .before .before .read-item .ensures .sound (c .before .enum-told .given .1),
       subst (λ (n : ℕ). formLeft Include s n ≡ Pass) (sym (is .next)) (right-next Include s (length s) (l .at) (c .before .before .before .before .before .before .loop-test .taken) (l .inv .2)),
       subst (λ (n : ℕ). M.readAll R (subobjectsLeft s n) (stateOf (c .before .before .before .read-item .result .state)) ≡ M.readAll R (subobjectsLeft s 0) (stateOf (c .before .before .before .before .before .before .before .before .start .result))) (sym (is .next))
           (sym (read-passed R s (l .at) (stateOf (l .st)) (c .before .before .before .before .before .before .loop-test .taken) (l .inv .2) _ on) ∙ l .inv .3),
@@ -151,6 +153,7 @@ read-list-spec =
     area-at-requires
     read-item-requires
     enum-known-verdict
+    refused-requires
     returns
     enum-told
     loop-less

@@ -53,7 +53,7 @@ returns-2 c =
       destination-kept = refl;
       limits-kept = refl;
       in-first = refl;
-      ready = λ e. ready-query (request start) st (a .asked .source) (a .asked .destination) (passed-request (request start) (start .pre)) (read .ensures .sound) means;
+      ready = λ e. ready-query (request start) st (a .asked .source) (a .asked .destination) (passed-request (request start) (start .pre)) (read .ensures .sound (c .before .before .before .enum-told .given .1)) means;
       none = λ x e. absurd (refuse-not-pass x (sym e));
     }
 

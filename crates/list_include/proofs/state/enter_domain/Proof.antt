@@ -2,7 +2,7 @@
 use mathlib.Core.Path.{refl, sym, _∙_}
 use native.Mathlib.Omega.{arith}
 use Rattle.list_include.specs.Reading.{stateOf}
-use Rattle.list_include.proofs.States.{stepped-refused, stepped-on, enter-here, enter-back, enter-full, enter-new, length-stops}
+use Rattle.list_include.proofs.States.{step-refused, stepped-on, enter-here, enter-back, enter-full, enter-new, length-stops}
 use borrow.Author.Needs.{needs}
 use Rattle.list_include.proofs.state.enter_domain.Statement.{statement}
 use Rattle.list_include.proofs.state.enter_domain.Tie as tie
@@ -25,25 +25,25 @@ returns c =
 holds-requires : tie.Need-holds-requires
 holds-requires c κs = search needs
 
-refuse-at-requires : tie.Need-refuse-at-requires
-refuse-at-requires c κs = search needs
+refused-at-requires : tie.Need-refused-at-requires
+refused-at-requires c κs = search needs
 
 returns-2 : tie.Need-returns-2
 returns-2 c =
     let a = c .before .before .before .before .before .before .before .args in
     let pre = c .before .before .before .before .before .before .before .pre in
-    stepped-refused (a .t1) _ 30 (a .at) _ (pre .0) (c .refuse-at .ensures)
+    step-refused stateOf _ _ _ (c .refused-at .ensures)
     (enter-back (a .at) (stateOf (a .t1)) (a .d .0) (c .before .before .before .if1 .left) (sym (c .before .before .holds .ensures) ∙ c .before .if2 .taken))
 
-refuse-at-requires-2 : tie.Need-refuse-at-requires-2
-refuse-at-requires-2 c κs = search needs
+refused-at-requires-2 : tie.Need-refused-at-requires-2
+refused-at-requires-2 c κs = search needs
 
 returns-3 : tie.Need-returns-3
 returns-3 c =
     let a = c .before .before .before .before .before .before .before .before .args in
     let pre = c .before .before .before .before .before .before .before .before .pre in
     let full = c .before .if3 .taken in
-    stepped-refused (a .t1) _ 31 (a .at) _ (pre .0) (c .refuse-at2 .ensures)
+    step-refused stateOf _ _ _ (c .refused-at2 .ensures)
     (enter-full (a .at) (stateOf (a .t1)) (a .d .0) (c .before .before .before .before .if1 .left) (sym (c .before .before .before .holds .ensures) ∙ c .before .before .if2 .left) (omega (arith, length-stops (a .t1))))
 
 add-requires : tie.Need-add-requires
@@ -66,9 +66,9 @@ enter-domain-spec =
     element-copy-out-here
     returns
     holds-requires
-    refuse-at-requires
+    refused-at-requires
     returns-2
-    refuse-at-requires-2
+    refused-at-requires-2
     returns-3
     add-requires
     returns-4)

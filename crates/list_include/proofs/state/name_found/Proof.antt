@@ -3,7 +3,7 @@ use mathlib.Core.Path.{sym, ap, subst}
 use Rattle.model.specs.Sequence as M
 use Rattle.list_include.specs.declared.named_domains.NamedDomain.{NamedDomain}
 use Rattle.list_include.specs.Reading.{stateOf, ReadStepIs, nameFound}
-use Rattle.list_include.proofs.States.{stepped-refused}
+use Rattle.list_include.proofs.States.{step-refused}
 use borrow.Author.Needs.{needs}
 use Rattle.list_include.proofs.state.name_found.Statement.{statement}
 use Rattle.list_include.proofs.state.name_found.Tie as tie
@@ -11,8 +11,8 @@ use Rattle.list_include.proofs.state.name_found.Tie as tie
 enum-told : tie.Need-enum-told
 enum-told c = search needs
 
-refuse-at-requires : tie.Need-refuse-at-requires
-refuse-at-requires c κs = search needs
+refused-at-requires : tie.Need-refused-at-requires
+refused-at-requires c κs = search needs
 
 enum-known-found : tie.Need-enum-known-found
 enum-known-found c = search needs
@@ -23,37 +23,34 @@ enter-domain-requires c κs = search needs
 enum-told-2 : tie.Need-enum-told-2
 enum-told-2 c = search needs
 
-refuse-at-requires-2 : tie.Need-refuse-at-requires-2
-refuse-at-requires-2 c κs = search needs
+refused-at-requires-2 : tie.Need-refused-at-requires-2
+refused-at-requires-2 c κs = search needs
 
 returns : tie.Need-returns
 returns c =
     let a = c .before .before .before .args in
-    let pre = c .before .before .before .pre in
-    stepped-refused (a .st) _ 28 (a .at) _ (pre .0) (c .refuse-at .ensures) (ap (nameFound (a .at) (stateOf (a .st))) (c .before .enum-told .given .1))
+    step-refused stateOf _ _ _ (c .refused-at .ensures) (ap (nameFound (a .at) (stateOf (a .st))) (c .before .enum-told .given .1))
 
 returns-2 : tie.Need-returns-2
 returns-2 c =
     let a = c .before .before .before .before .args in
-    let pre = c .before .before .before .before .pre in
     subst (λ (x : NamedDomain). ReadStepIs (c .enter-domain .result) (nameFound (a .at) (stateOf (a .st)) x)) (sym (c .before .before .found .given .1)) (c .enter-domain .ensures)
 
 returns-3 : tie.Need-returns-3
 returns-3 c =
     let a = c .before .before .before .args in
-    let pre = c .before .before .before .pre in
-    stepped-refused (a .st) _ 29 (a .at) _ (pre .0) (c .refuse-at2 .ensures) (ap (nameFound (a .at) (stateOf (a .st))) (c .before .enum-told2 .given .1))
+    step-refused stateOf _ _ _ (c .refused-at2 .ensures) (ap (nameFound (a .at) (stateOf (a .st))) (c .before .enum-told2 .given .1))
 
 pub name-found-spec : {M : Type 1} → statement M
 name-found-spec =
     tie.close
     (tie.spec
     enum-told
-    refuse-at-requires
+    refused-at-requires
     enum-known-found
     enter-domain-requires
     enum-told-2
-    refuse-at-requires-2
+    refused-at-requires-2
     returns
     returns-2
     returns-3)

@@ -6,7 +6,7 @@ use Rattle.model.specs.Profile.{layoutIn, domains}
 use Rattle.model.specs.Request.{provided}
 use Rattle.model.specs.Sequence as M
 use Rattle.model.specs.Calls.{readingOf}
-use Rattle.list_include.specs.Reading.{stateStops}
+use Rattle.list_include.specs.Reading.{SoundState, stateStops}
 use Rattle.profile_check.proofs.Access.{whole-domains, short-areas}
 use Rattle.list_reader.proofs.ReadChecks.{Passed, passed}
 use Rattle.list_reader.proofs.ReadOutcomes.{checks-refused, checks-passed, outcome-refused, outcome-small, outcome-read, refused-is, read-is}
@@ -78,13 +78,17 @@ returns-3 c =
     refused-is (a .profile .now) (a .ingress .0) (a .list .now) (a .domains .now) (a .pinned .now) (a .pins .now) _
     (outcome-small (a .profile .now) (a .ingress .0) (a .list .now) _ (stateStops st) (sequence (c .before .before .before .before)) (omega (arith, length-stops st, c .before .before .lesser .ensures, c .before .lesser2 .ensures)))
 
+-- the state is sound where the list has a meaning
+sound-state : (c : tie.After-enum-told2) → SoundState (c .before .before .read-list .result .state)
+sound-state c = (c .before .before .read-list .ensures) .sound (c .enum-told2 .given .1)
+
 copy-sequence-requires : tie.Need-copy-sequence-requires
 copy-sequence-requires c κs =
     let fits = c .before .before .before in
-    ((fits .before .before .before .before .before .before .read-list .ensures) .sound, omega (arith, fits .if1 .left, fits .before .before .lesser .ensures, fits .before .lesser2 .ensures))
+    (sound-state (fits .before .before .before .before), omega (arith, fits .if1 .left, fits .before .before .lesser .ensures, fits .before .lesser2 .ensures))
 
 cast-t28 : tie.Need-cast-t28
-cast-t28 c = search needs
+cast-t28 c = let few = (sound-state (c .before .before .before .before .before .before .before .before .before .before .before .before .before .before)) .most in omega arith
 
 same-length : tie.Need-same-length
 same-length c = search needs
