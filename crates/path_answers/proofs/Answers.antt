@@ -7,7 +7,8 @@ use Prim.Native.Nat.{ℕ, suc, _≤_, _<_}
 use native.Mathlib.Omega.{arith}
 use lib.Dec.{ltb}
 use lib.Ieee.{Float, binary32, toBits, isNan}
-use lib.ListN.{length, getD, take}
+use lib.ListN.{length, getD, take, replicate}
+use Rattle.model.specs.Lists.{over}
 use Rattle.model.specs.declared.Refusal.{Refusal}
 use Rattle.model.specs.declared.Round.{Round}
 use Rattle.model.specs.declared.PathAnswer.{PathAnswer}
@@ -32,14 +33,16 @@ none-not-found : (again : Bool) (total : ℕ) (x : Float) (round : Round) → no
 none-not-found true total x round e = let z : _≡_ {A = ℕ} 0 1 = cc in omega arith
 none-not-found false total x round e = let z : _≡_ {A = ℕ} 0 1 = cc in omega arith
 
-pub refused-by : (r : Refusal) (room : ℕ) (path : List ℕ) → length path ≡ 17 → ReplyIs (nothing (refused4 r)) room (record { answer = Refused r; count = 0; path = path })
-refused-by r room path long =
+pub refused-by : (r : Refusal) (room : ℕ) → ReplyIs (nothing (refused4 r)) room (record { answer = Refused r; count = 0; path = replicate 17 0 })
+unfolding over
+refused-by r room =
     record {
       numbers-are = refl;
       written-is = refl;
+      cells-are = refl;
       few = omega arith;
       fits = omega arith;
-      long = long;
+      long = refl;
       real = λ total x round e. absurd (not-found r total x round e);
     }
 
@@ -48,16 +51,18 @@ none-numbers true = refl
 none-numbers false = refl
 
 pub none-by
-    : (round : Round) (again : Bool) (answer : PathAnswer) (ps : List Route) (room : ℕ) (path : List ℕ) → answer ≡ noneAnswer again → head? ps ≡ none → length path ≡ 17
+    : (round : Round) (again : Bool) (answer : PathAnswer) (ps : List Route) (room : ℕ) (path : List ℕ) → answer ≡ noneAnswer again → head? ps ≡ none → path ≡ replicate 17 0
     → ReplyIs (firstOf round (noneNumber again) ps) room (record { answer = answer; count = 0; path = path })
-none-by round again answer ps room path is e long =
+unfolding over
+none-by round again answer ps room path is e zeros =
     let o = answer-none round (noneNumber again) ps e in
     record {
       numbers-are = ap numbersOfPath is ∙ none-numbers again ∙ sym (ap (λ (x : Outcome ℕ). x .numbers) o);
       written-is = sym (ap (λ (x : Outcome ℕ). x .written) o);
+      cells-are = zeros ∙ sym (ap (λ (x : Outcome ℕ). over (x .written) (replicate 17 0)) o);
       few = omega arith;
       fits = omega arith;
-      long = long;
+      long = ap length zeros;
       real = λ total x y f. absurd (none-not-found again total x y (sym is ∙ f));
     }
 
@@ -84,6 +89,7 @@ found-by number S given count count′ room sought x p long few fits is float ri
           ∙ (λ j. done4 (sym (p .total-is) j) (toBits binary32 (floatOf (sym (p .total-is) j))) (sought .round))
           ∙ sym (ap (λ (y : Outcome ℕ). y .numbers) o);
       written-is = ap (λ (n : ℕ). take n (sought .path)) is ∙ sym (p .addresses-are) ∙ sym (ap (λ (y : Outcome ℕ). y .written) o);
+      cells-are = p .cells-are ∙ sym (ap (λ (y : Outcome ℕ). over (y .written) (replicate 17 0)) o);
       few = omega arith;
       fits = omega arith;
       long = long;

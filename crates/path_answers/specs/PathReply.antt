@@ -2,7 +2,8 @@
 use mathlib.Core.Path.{_≡_}
 use mathlib.Core.Bool.{Bool, true, false}
 use Prim.Native.Nat.{ℕ, _≤_}
-use lib.ListN.{length, take}
+use lib.ListN.{length, take, replicate}
+use Rattle.model.specs.Lists.{over}
 use Rattle.model.specs.declared.PathAnswer.{PathAnswer}
 use Rattle.model.specs.declared.PathAnswer.the-variants.{NoPath, End}
 use Rattle.model.specs.Answers.{numbersOfPath}
@@ -19,10 +20,11 @@ abbrev pub noneNumber : Bool → ℕ
 noneNumber true = 2
 noneNumber false = 1
 
--- its numbers are the outcome's, and the first `count` addresses of its path are what is written: at most 17, and no more than there is room for
+-- its numbers are the outcome's, and the first `count` addresses of its path are what is written, with nothing behind them: at most 17, and no more than there is room for
 pub record ReplyIs (o : Outcome ℕ) (room : ℕ) (r : PathReply) : Type 0 where
   pub numbers-are : numbersOfPath (r .answer) ≡ o .numbers
   pub written-is : take (r .count) (r .path) ≡ o .written
+  pub cells-are : r .path ≡ over (o .written) (replicate 17 0)
   pub few : r .count ≤ 17
   pub fits : r .count ≤ room
   pub long : length (r .path) ≡ 17

@@ -5,18 +5,20 @@ use mathlib.Core.List.{List, head?}
 use mathlib.Core.Option.{none, some}
 use Prim.Native.Nat.{ℕ}
 use lib.ListN.{length, take, replicate}
+use Rattle.model.specs.Lists.{over}
 use Rattle.model.specs.declared.Round.{Round}
 use Rattle.model.specs.Request.{Search}
 use Rattle.model.specs.Path.{Route, shortestPaths}
 use Rattle.model.specs.Calls.{greaterThan}
 use Rattle.path_answers.specs.declared.SearchResult.{SearchResult}
 
--- a path found: its total and its addresses, `long` of them
+-- a path found: its total and its addresses, `long` of them, and nothing behind them
 pub record ResultPath (S : Search) (given : List ℕ) (long : ℕ) (r : SearchResult) : Type 0 where
   pub path : Route
   pub first : head? (greaterThan given (shortestPaths S)) ≡ some path
   pub total-is : path .total ≡ r .total
   pub addresses-are : path .addresses ≡ take long (r .path)
+  pub cells-are : r .path ≡ over (path .addresses) (replicate 17 0)
 
 -- nothing found in a round
 abbrev pub nothingIn : Round → SearchResult

@@ -10,7 +10,7 @@ ghost use Rattle.model.specs.Request.{Search};
 ghost use Rattle.model.specs.Path.{shortestPaths};
 ghost use Rattle.model.specs.Answers.{refused4};
 ghost use Rattle.model.specs.Calls.{nothing, firstOf, greaterThan};
-ghost use Rattle.path_answers.specs.SearchResult.{ResultIs};
+ghost use Rattle.path_answers.specs.SearchResult.{nothingIn, ResultIs};
 ghost use Rattle.path_answers.specs.PathReply.{noneAnswer, noneNumber, ReplyIs};
 
 pub mod numbers;
@@ -21,6 +21,19 @@ pub struct SearchResult {
     pub found: bool,
     pub total: u32,
     pub path: [u32; 17],
+}
+
+// Nothing is found in a round.
+pub fn nothing_in(round: Round) -> SearchResult
+    ensures { λ r. ⌜ r ≡ nothingIn round ⌝ }
+{
+    let none = [0u32; 17];
+    SearchResult {
+        round,
+        found: false,
+        total: 0,
+        path: none,
+    }
 }
 
 // What a call for a path answers, and the path: the first `count` addresses of `path`.

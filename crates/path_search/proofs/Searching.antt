@@ -2,14 +2,16 @@
 -- From the law that the next shortest path is what the recursion finds.
 use mathlib.Core.Path.{_≡_, refl, sym, ap, subst, _∙_}
 use mathlib.Core.Bool.{Bool, true, false, not, _&&_, true≢false}
-use mathlib.Core.List.{List, [], _∷_, head?}
+use mathlib.Core.List.{List, [], _∷_, _++_, head?}
 use mathlib.Core.Option.{Option, none, some}
 use Prim.Native.Nat.{ℕ, suc, _+_, _≤_, _<_}
+use native.Mathlib.Nat.{zero-add}
 use native.Mathlib.Omega.{arith}
 use lib.ListN.{replicate, length, take, drop, getD}
 use lib.Seq.{length-paste, take-at}
 use borrow.Author.Tests.{eq-eqb, ne-eqb}
-use Rattle.model.specs.Lists.{isEmpty, below, keep}
+use Rattle.model.specs.declared.Round.{Round}
+use Rattle.model.specs.Lists.{isEmpty, below, keep, over}
 use Rattle.model.specs.Profile.{Layout, hops, costLimit}
 use Rattle.model.specs.Request.{Search}
 use Rattle.model.specs.Path.{legs, keepsBound, Route, suffixes, admissible, cheapest, shortestPaths}
@@ -40,7 +42,7 @@ use Rattle.tree_rounds.proofs.Source.{cost-is, small, none-admissible}
 use Rattle.path_step.specs.Worked.{Worked, Stands}
 use Rattle.path_descent.specs.Routes.{isFound, routed, Written}
 use Rattle.path_answers.specs.declared.SearchResult.{SearchResult}
-use Rattle.path_answers.specs.SearchResult.{ResultPath, ResultIs}
+use Rattle.path_answers.specs.SearchResult.{nothingIn, ResultPath, ResultIs}
 use Rattle.path_search.specs.Searched.{ResultFor}
 
 -- what was worked out for a ready query
@@ -118,21 +120,31 @@ module _ (L : Layout) (s exclude : List ℕ) (q : Query) (cheap : L .mostCost �
 
       -- what was found and written is what is sought
       pub sought
-          : (old : List ℕ) (found : Bool) (path : List ℕ) → length old ≡ 17
+          : (old : List ℕ) (found : Bool) (path : List ℕ) → old ≡ replicate 17 0
           → Written 0 (nextFrom S (legs (S .sequence)) 0 (S .source) given) old found path
           → found ≡ true
           → ResultIs S given (suc (q .count)) (record { round = q .round; found = true; total = here; path = path })
-      sought old found path cells w told =
+      unfolding over
+      sought old found path zeros w told =
           record {
             there = λ t. there-is (nextFrom S (legs (S .sequence)) 0 (S .source) given) refl (sym (w .says) ∙ told);
             missing = λ f. absurd (true≢false f);
             nothing-else = λ f. absurd (true≢false f);
-            cells = ap length (w .holds) ∙ held (nextFrom S (legs (S .sequence)) 0 (S .source) given) refl ∙ cells;
+            cells = ap length (w .holds) ∙ held (nextFrom S (legs (S .sequence)) 0 (S .source) given) refl ∙ ap length zeros;
           }
         where
           held : (o : Option Route) → nextFrom S (legs (S .sequence)) 0 (S .source) given ≡ o → length (routed 0 o old) ≡ length old
           held none e = refl
-          held (some r) e = length-paste old 0 (r .addresses) (length (r .addresses)) (omega (arith, size r e, cells, ready .most)) (omega arith)
+          held (some r) e = length-paste old 0 (r .addresses) (length (r .addresses)) (omega (arith, size r e, ap length zeros, ready .most)) (omega arith)
+
+          written : (r : Route) → nextFrom S (legs (S .sequence)) 0 (S .source) given ≡ some r → path ≡ r .addresses ++ drop (0 + length (r .addresses)) old
+          written r e = w .holds ∙ ap (λ (x : Option Route). routed 0 x old) e ∙ pasted old 0 (r .addresses)
+
+          over-start : (r : Route) → nextFrom S (legs (S .sequence)) 0 (S .source) given ≡ some r → path ≡ over (r .addresses) (replicate 17 0)
+          over-start r e =
+              written r e
+              ∙ ap (λ (n : ℕ). r .addresses ++ drop n old) (zero-add (length (r .addresses)))
+              ∙ ap (λ (l : List ℕ). r .addresses ++ drop (length (r .addresses)) l) zeros
 
           there-is
               : (o : Option Route) → nextFrom S (legs (S .sequence)) 0 (S .source) given ≡ o → isFound o ≡ true
@@ -145,25 +157,24 @@ module _ (L : Layout) (s exclude : List ℕ) (q : Query) (cheap : L .mostCost �
                 total-is = next-total S sorted (legs (S .sequence)) 0 (S .source) given e ∙ sym (cost-is L s exclude q cheap ready here is some-way);
                 addresses-are =
                     sym
-                    (ap (take (suc (q .count))) (w .holds ∙ ap (λ (x : Option Route). routed 0 x old) e ∙ pasted old 0 (r .addresses))
+                    (ap (take (suc (q .count))) (written r e)
                     ∙ take-at (r .addresses) (drop (0 + length (r .addresses)) old) (suc (q .count)) (size r e));
+                cells-are = over-start r e;
               }
 
-      -- and nothing where nothing was
+      -- and where nothing was, nothing is listed
       pub none-above
-          : (old : List ℕ) (found : Bool) (path : List ℕ) → old ≡ replicate 17 0
+          : (old : List ℕ) (found : Bool) (path : List ℕ)
           → Written 0 (nextFrom S (legs (S .sequence)) 0 (S .source) given) old found path
           → found ≡ false
-          → ResultIs S given (suc (q .count)) (record { round = q .round; found = false; total = 0; path = path })
-      none-above old found path zeros w told =
-          let none-is = found-none (nextFrom S (legs (S .sequence)) 0 (S .source) given) (sym (w .says) ∙ told) in
-          let same : path ≡ replicate 17 0 = w .holds ∙ ap (λ (o : Option Route). routed 0 o old) none-is ∙ zeros in
-          record {
-            there = λ t. absurd (true≢false (sym t));
-            missing = λ f. first-is ∙ none-is;
-            nothing-else = λ f. ap {B = SearchResult} (λ (p : List ℕ). record { round = q .round; found = false; total = 0; path = p }) same;
-            cells = ap length same;
-          }
+          → head? (greaterThan given (shortestPaths S)) ≡ none
+      none-above old found path w told = first-is ∙ found-none (nextFrom S (legs (S .sequence)) 0 (S .source) given) (sym (w .says) ∙ told)
+
+-- nothing found in a round, where nothing is listed
+pub result-none : (S : Search) (given : List ℕ) (long : ℕ) (x : Round) (r : SearchResult) → r ≡ nothingIn x → head? (greaterThan given (shortestPaths S)) ≡ none → ResultIs S given long r
+result-none S given long x r e none-listed =
+    subst (ResultIs S given long) (sym e)
+    (record { there = λ t. absurd (true≢false (sym t)); missing = λ f. none-listed; nothing-else = λ f. refl; cells = refl })
 
 -- a query whose round is settled: what is found for it is what is sought for the given one
 module _ (L : Layout) (s exclude : List ℕ) (q : Query) (addresses codes starts firsts lasts : List ℕ) (r : ChosenRound) (is : ChosenRoundIs L s exclude q addresses codes starts firsts lasts r) where

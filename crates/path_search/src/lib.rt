@@ -2,6 +2,7 @@
 // found by going down the tree.
 use model::NodeAddress;
 use path_answers::SearchResult;
+use path_answers::nothing_in;
 use path_descent::first_by;
 use path_descent::next_after;
 use path_step::Heads;
@@ -131,12 +132,7 @@ pub fn search(s: &[u8], layout: Layout, exclude: &[u8], q: Query, given: &[u32])
     let round = query.round;
     let limits = query.limits;
     if !admissible(limits, here) {
-        return SearchResult {
-            round,
-            found: false,
-            total: 0,
-            path,
-        };
+        return nothing_in(round);
     }
     let found = above(
         s,
@@ -152,12 +148,7 @@ pub fn search(s: &[u8], layout: Layout, exclude: &[u8], q: Query, given: &[u32])
         &mut path,
     );
     if !found {
-        return SearchResult {
-            round,
-            found: false,
-            total: 0,
-            path,
-        };
+        return nothing_in(round);
     }
     SearchResult {
         round,

@@ -1,9 +1,10 @@
 -- `path_answers::answered` meets its contract, by whether a path was found.
--- Assumes nothing.
+use mathlib.Core.Path.{ap}
 use native.Mathlib.Numerals.{add-one}
 use borrow.Author.Tests.{not-true, not-false}
 use Rattle.model.specs.Path.{shortestPaths}
 use Rattle.model.specs.Calls.{greaterThan}
+use Rattle.path_answers.specs.declared.SearchResult.{SearchResult}
 use Rattle.path_answers.specs.PathReply.{noneNumber}
 use Rattle.path_answers.proofs.Answers.{none-by, found-by}
 use borrow.Author.Needs.{needs}
@@ -17,7 +18,7 @@ returns : tie.Need-returns
 returns c =
     let a = c .before .before .before .before .args in
     λ S given room is fits.
-    none-by (a .sought .round) (a .again) _ (greaterThan given (shortestPaths S)) room (a .sought .path) (c .none-answer .ensures) (is .missing (not-true _ (c .before .if1 .taken))) (is .cells)
+    none-by (a .sought .round) (a .again) _ (greaterThan given (shortestPaths S)) room (a .sought .path) (c .none-answer .ensures) (is .missing (not-true _ (c .before .if1 .taken))) (ap (λ (x : SearchResult). x .path) (is .nothing-else (not-true _ (c .before .if1 .taken))))
 
 total-float-requires : tie.Need-total-float-requires
 total-float-requires c κs = search needs

@@ -1,7 +1,6 @@
 -- `path_search::search` meets its contract: the tree is worked out in the round that applies, the bound asked of the source's number, and what is found above the given
 -- list written.
-use mathlib.Core.Path.{_≡_, refl, sym, _∙_}
-use mathlib.Core.Bool.{true≢false}
+use mathlib.Core.Path.{_≡_, refl, sym, ap, _∙_}
 use Prim.Native.Nat.{ℕ, _<_}
 use native.Mathlib.Omega.{arith}
 use borrow.Author.Needs.{needs}
@@ -11,9 +10,10 @@ use Rattle.profile_records.specs.Layout.{layoutOf}
 use Rattle.request.specs.declared.Query.{Query}
 use Rattle.request.specs.Query.{searchFor, Ready}
 use Rattle.tree_reaches.specs.Reaches.{codeAt}
+use Rattle.path_answers.specs.declared.SearchResult.{SearchResult}
 use Rattle.path_step.specs.Worked.{Worked}
 use Rattle.tree_rounds.proofs.Source.{source-number}
-use Rattle.path_search.proofs.Searching.{worked-for, stands, some-way, sought-none, sought, none-above, ready-settled, fits-settled, sought-for}
+use Rattle.path_search.proofs.Searching.{worked-for, stands, some-way, sought-none, sought, none-above, result-none, ready-settled, fits-settled, sought-for}
 use Rattle.path_search.proofs.search.Statement.{statement}
 use Rattle.path_search.proofs.search.Tie as tie
 
@@ -58,21 +58,18 @@ here-is c =
 admissible-requires : tie.Need-admissible-requires
 admissible-requires c κs = ready (c .before .before) .bound-right
 
+nothing-in-requires : tie.Need-nothing-in-requires
+nothing-in-requires c κs = search needs
+
 returns : tie.Need-returns
 returns c =
-    let start = c .before .before .before .before .before .before .before .before .before .before .before .before .before in
+    let start = c .before .before .before .before .before .before .before .before .before .before .before .before .before .before in
     let a = start .args in
-    let at = c .before .before .before .before in
-    sought-for (layoutOf (a .layout)) (a .s .now) (a .exclude .now) (a .q) _ _ _ _ _ _ (at .settle .ensures) (a .given .now) _ refl
-    (record {
-      there = λ e. absurd (true≢false (sym e));
-      missing =
-          λ e.
-          sought-none (layoutOf (a .layout)) (a .s .now) (a .exclude .now) (settled at) (start .pre .0 .0 .cheap) (bytes at) (ready at) _ (here-is at) (a .given .now)
-          (sym (c .before .admissible .ensures) ∙ not-true (c .before .admissible .result) (c .if1 .taken));
-      nothing-else = λ e. refl;
-      cells = refl;
-    })
+    let at = c .before .before .before .before .before in
+    sought-for (layoutOf (a .layout)) (a .s .now) (a .exclude .now) (a .q) _ _ _ _ _ _ (at .settle .ensures) (a .given .now) _ (ap (λ (r : SearchResult). r .round) (c .nothing-in .ensures))
+    (result-none _ _ _ _ _ (c .nothing-in .ensures)
+    (sought-none (layoutOf (a .layout)) (a .s .now) (a .exclude .now) (settled at) (start .pre .0 .0 .cheap) (bytes at) (ready at) _ (here-is at) (a .given .now)
+    (sym (c .before .before .admissible .ensures) ∙ not-true (c .before .before .admissible .result) (c .before .if1 .taken))))
 
 slice-aggregate-above : tie.Need-slice-aggregate-above
 slice-aggregate-above c = search needs
@@ -93,18 +90,22 @@ above-requires c κs =
       },
     )
 
+nothing-in-requires-2 : tie.Need-nothing-in-requires-2
+nothing-in-requires-2 c κs = search needs
+
 returns-2 : tie.Need-returns-2
 returns-2 c =
-    let start = c .before .before .before .before .before .before .before .before .before .before .before .before .before .before .before .before .before .before .before .before .before .before in
+    let start = c .before .before .before .before .before .before .before .before .before .before .before .before .before .before .before .before .before .before .before .before .before .before .before in
     let a = start .args in
     let pre = start .pre in
-    let at = c .before .before .before .before .before .before .before .before .before .before .before .before .before in
-    let kept = sym (c .before .before .before .before .before .before .before .before .before .before .admissible .ensures) ∙ not-false (c .before .before .before .before .before .before .before .before .before .before .admissible .result) (c .before .before .before .before .before .before .before .before .before .if1 .left) in
+    let at = c .before .before .before .before .before .before .before .before .before .before .before .before .before .before in
+    let kept = sym (c .before .before .before .before .before .before .before .before .before .before .before .admissible .ensures) ∙ not-false (c .before .before .before .before .before .before .before .before .before .before .before .admissible .result) (c .before .before .before .before .before .before .before .before .before .before .if1 .left) in
     let way = some-way (layoutOf (a .layout)) (a .s .now) (a .exclude .now) (settled at) (pre .0 .0 .cheap) (bytes at) (ready at) _ (here-is at) (a .given .now) kept in
-    sought-for (layoutOf (a .layout)) (a .s .now) (a .exclude .now) (a .q) _ _ _ _ _ _ (at .settle .ensures) (a .given .now) _ refl
-    (none-above (layoutOf (a .layout)) (a .s .now) (a .exclude .now) (settled at) (pre .0 .0 .cheap) (bytes at) (ready at) _ (here-is at) (a .given .now) kept _ _ _ refl
-    (c .before .before .above .ensures (searchFor (layoutOf (a .layout)) (a .s .now) (a .exclude .now) (settled at)) (worked at)
-    (stands (layoutOf (a .layout)) (a .s .now) (a .exclude .now) (settled at) (pre .0 .0 .cheap) (bytes at) (ready at) _ (here-is at) way)) (not-true _ (c .if2 .taken)))
+    sought-for (layoutOf (a .layout)) (a .s .now) (a .exclude .now) (a .q) _ _ _ _ _ _ (at .settle .ensures) (a .given .now) _ (ap (λ (r : SearchResult). r .round) (c .nothing-in2 .ensures))
+    (result-none _ _ _ _ _ (c .nothing-in2 .ensures)
+    (none-above (layoutOf (a .layout)) (a .s .now) (a .exclude .now) (settled at) (pre .0 .0 .cheap) (bytes at) (ready at) _ (here-is at) (a .given .now) kept _ _ _
+    (c .before .before .before .above .ensures (searchFor (layoutOf (a .layout)) (a .s .now) (a .exclude .now) (settled at)) (worked at)
+    (stands (layoutOf (a .layout)) (a .s .now) (a .exclude .now) (settled at) (pre .0 .0 .cheap) (bytes at) (ready at) _ (here-is at) way)) (not-true _ (c .before .if2 .taken))))
 
 returns-3 : tie.Need-returns-3
 returns-3 c =
@@ -126,8 +127,10 @@ search-spec =
     settle-requires
     array-read-here
     admissible-requires
+    nothing-in-requires
     returns
     slice-aggregate-above
     above-requires
+    nothing-in-requires-2
     returns-2
     returns-3)
