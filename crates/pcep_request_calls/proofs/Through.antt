@@ -4,7 +4,6 @@ use mathlib.Core.Path.{_≡_, refl, sym, ap, subst}
 use mathlib.Core.List.{List}
 use lib.Ieee.{Float}
 use native.Mathlib.Omega.{arith}
-use Rattle.model.specs.declared.Limits.{Limits}
 use Rattle.model.specs.declared.Round.{Round}
 use Rattle.model.specs.declared.PathAnswer.the-variants as Path
 use Rattle.model.specs.declared.Refusal.{Refusal}
@@ -12,16 +11,14 @@ use Rattle.model.specs.declared.TreeAnswer.the-variants as Tree
 use Rattle.model.specs.declared.TreeEntry.{TreeEntry}
 use Rattle.model.specs.declared.Verdict.{Verdict}
 use Rattle.model.specs.declared.Verdict.the-variants.{Pass, Refuse}
-use Rattle.model.specs.Request.{limitsOfBits}
 use Rattle.model.specs.Calls.{Outcome}
 use Rattle.laws.proofs.Lists.{over-nothing}
-use Rattle.request.specs.CheckedRequest.{requestOf, requestFor}
+use Rattle.request.specs.CheckedRequest.{requestFor}
 use Rattle.tree_fields.specs.TreeResult.{TreeIn}
 use Rattle.pcep_model.specs.Pcreq.{listIn, carried, behind}
-use Rattle.pcep_request_reader.specs.declared.fields.PcreqParts.{PcreqParts}
-use Rattle.pcep_request_reader.specs.ParsedPcreq.{PartsAre}
-use Rattle.pcep_request_calls.specs.declared.CarriedRequest.{CarriedRequest}
-use Rattle.pcep_request_calls.specs.Through.{CarriedRequestIs, PathIn}
+use Rattle.pcep_request_reader.specs.declared.carried.CarriedRequest.{CarriedRequest}
+use Rattle.pcep_request_reader.specs.Carried.{CarriedRequestIs}
+use Rattle.pcep_request_calls.specs.Through.{PathIn}
 
 module _ {A : Type 0} where
   behind-refused : (v : Verdict) (o : Outcome A) (x : Refusal) → v ≡ Refuse x → behind v o ≡ behind (Refuse x) o
@@ -51,14 +48,6 @@ tree-refused v o levels addresses marks costs x e =
       in-marks = sym (over-nothing marks);
       in-costs = sym (over-nothing costs);
     })
-
--- what was taken apart, with the limits of its bits, is the request carried
-pub carried-request
-    : (s : List ℕ) (t : PcreqParts) → PartsAre s t
-    → (limits : Limits) → limits ≡ limitsOfBits (t .fields .bandwidth) (t .bounded) (t .bound)
-    → (profile : List ℕ) (ingress : ℕ)
-    → requestOf profile ingress (t .fields .source .0) (t .fields .destination .0) (listIn s (t .fields .include)) (listIn s (t .fields .exclude)) limits ≡ carried profile ingress s
-carried-request s t is limits e profile ingress = rw (e, is .bounded, is .bound, is .fields .are) refl
 
 -- the request that a call is made on, with the lists as they were lent to it, is the one carried
 pub same-request

@@ -2,63 +2,18 @@
 // numbers that the message carries.
 use model::DomainIndex;
 use model::PathAnswer;
-use model::Refusal;
 use model::TreeAnswer;
 use path_calls::first;
 use path_calls::next;
 use pcep_message::parts::list_in;
-use pcep_model::Extent;
-use pcep_request_reader::fields::ParsedPcreq;
-use pcep_request_reader::fields::take_apart;
-use request::Asked;
-use request::limits::limits_of;
+use pcep_request_reader::carried::Carried;
+use pcep_request_reader::carried::carried_by;
 use tree_fields::tree_numbers;
 ghost use lib.ListN.{length};
 ghost use Rattle.pcep_model.specs.Pcreq.{pcreqTree, pcreqFirst, pcreqNext};
 ghost use Rattle.buffers.specs.Capacity.{least4};
 ghost use Rattle.tree_fields.specs.TreeResult.{TreeIn};
-ghost use Rattle.pcep_request_calls.specs.Through.{CarriedIs, PathIn};
-
-// What a PCReq carries, as a call takes it.
-struct CarriedRequest {
-    asked: Asked,
-    include: Extent,
-    exclude: Extent,
-}
-
-// A PCReq refused by the checks of its frame, or the request that it carries.
-enum Carried {
-    Refused(Refusal),
-    Request(CarriedRequest),
-}
-
-fn carried_by(ingress: DomainIndex, message: &[u8]) -> Carried
-    ensures { λ r. ⌜ CarriedIs (ingress .0) (now (message .entry)) r ⌝ }
-{
-    let parsed = take_apart(message);
-    match parsed {
-        ParsedPcreq::Refused(r) => Carried::Refused(r),
-        ParsedPcreq::Parsed(parts) => {
-            let fields = parts.fields;
-            let limits = limits_of(fields.bandwidth, parts.bounded, parts.bound);
-            let source = fields.source;
-            let destination = fields.destination;
-            let include = fields.include;
-            let exclude = fields.exclude;
-            let asked = Asked {
-                ingress,
-                source,
-                destination,
-                limits,
-            };
-            Carried::Request(CarriedRequest {
-                asked,
-                include,
-                exclude,
-            })
-        }
-    }
-}
+ghost use Rattle.pcep_request_calls.specs.Through.{PathIn};
 
 // The tree's fields in four lent buffers. On a refusal they keep what they held.
 pub fn pcreq_tree(
@@ -109,7 +64,7 @@ pub fn pcreq_first(
             let asked = request.asked;
             let include = list_in(message, request.include);
             let exclude = list_in(message, request.exclude);
-            first(profile, request.asked, include, exclude, path)
+            first(profile, asked, include, exclude, path)
         }
     }
 }
@@ -131,7 +86,7 @@ pub fn pcreq_next(
             let asked = request.asked;
             let include = list_in(message, request.include);
             let exclude = list_in(message, request.exclude);
-            next(profile, request.asked, include, exclude, given, path)
+            next(profile, asked, include, exclude, given, path)
         }
     }
 }

@@ -14,6 +14,7 @@ ghost use mathlib.Core.Path.{_≡_};
 ghost use Rattle.pcep_request_reader.specs.ParsedPcreq.{PartsAre};
 ghost use Rattle.pcep_request_reader.specs.Reading.{ReadBy, CheckedPcreqIs, restVerdict};
 
+pub mod carried;
 pub mod fields;
 
 // What is left to check of a PCReq whose frame passes: 21, 22, the form of both lists, then 34.

@@ -8,7 +8,7 @@ use Rattle.tree_fields.specs.TreeResult.{TreeIn}
 use Rattle.pcep_model.specs.declared.MessageKind.the-variants.{Pcreq}
 use Rattle.pcep_model.specs.Objects.{messageVerdict}
 use Rattle.pcep_model.specs.Pcreq.{pcreqTree, carried}
-use Rattle.pcep_request_calls.specs.Through.{CarriedRequestIs, CarriedIs}
+use Rattle.pcep_request_reader.specs.Carried.{CarriedRequestIs, CarriedIs}
 use Rattle.pcep_request_calls.proofs.Through.{behind-passed, tree-refused, same-request}
 use borrow.Author.Needs.{needs}
 use Rattle.pcep_request_calls.proofs.pcreq_tree.Statement.{statement}

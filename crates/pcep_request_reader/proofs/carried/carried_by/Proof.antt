@@ -1,10 +1,24 @@
--- `pcep_request_calls::carried_by` meets its contract: what was taken apart, with the limits of its bits.
-use mathlib.Core.Path.{subst}
+-- `pcep_request_reader::carried::carried_by` meets its contract: what was taken apart, with the limits of its bits.
+use Prim.Native.Nat.{ℕ}
+use mathlib.Core.Path.{_≡_, refl, subst}
+use mathlib.Core.List.{List}
+use Rattle.model.specs.declared.Limits.{Limits}
+use Rattle.model.specs.Request.{limitsOfBits}
+use Rattle.request.specs.CheckedRequest.{requestOf}
+use Rattle.pcep_model.specs.Pcreq.{listIn, carried}
+use Rattle.pcep_request_reader.specs.declared.fields.PcreqParts.{PcreqParts}
 use Rattle.pcep_request_reader.specs.ParsedPcreq.{PartsAre, ParsedPcreqIs}
-use Rattle.pcep_request_calls.proofs.Through.{carried-request}
 use borrow.Author.Needs.{needs}
-use Rattle.pcep_request_calls.proofs.carried_by.Statement.{statement}
-use Rattle.pcep_request_calls.proofs.carried_by.Tie as tie
+use Rattle.pcep_request_reader.proofs.carried.carried_by.Statement.{statement}
+use Rattle.pcep_request_reader.proofs.carried.carried_by.Tie as tie
+
+-- what was taken apart, with the limits of its bits, is the request carried
+carried-request
+    : (s : List ℕ) (t : PcreqParts) → PartsAre s t
+    → (limits : Limits) → limits ≡ limitsOfBits (t .fields .bandwidth) (t .bounded) (t .bound)
+    → (profile : List ℕ) (ingress : ℕ)
+    → requestOf profile ingress (t .fields .source .0) (t .fields .destination .0) (listIn s (t .fields .include)) (listIn s (t .fields .exclude)) limits ≡ carried profile ingress s
+carried-request s t is limits e profile ingress = rw (e, is .bounded, is .bound, is .fields .are) refl
 
 take-apart-requires : tie.Need-take-apart-requires
 take-apart-requires c κs = search needs
