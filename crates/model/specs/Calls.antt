@@ -137,11 +137,15 @@ first r room = firstInto r (sequenceOf r) room
 unfoldable pub greaterThan : List ℕ → List Route → List Route
 greaterThan given ps = keep (λ (p : Route). below given (p .addresses)) ps
 
+-- what next asks of what it is lent: a given list of a path's length, 33, then the capacity, 34
+abbrev pub givenVerdict : ℕ → ℕ → ℕ → Verdict
+givenVerdict given long room = refuseIf (not (eqb given long)) 33 0 andThen roomVerdict long room
+
 abbrev pub nextInto : Request → Reading (List Stop) → List ℕ → ℕ → Outcome ℕ
 nextInto r (refused x) given room = nothing (refused4 x)
 nextInto r (good sequence) given room =
     answerPath
-    (refuseIf (not (eqb (length given) (pathLength sequence))) 33 0 andThen roomVerdict (pathLength sequence) room)
+    (givenVerdict (length given) (pathLength sequence) room)
     (roundOf r sequence)
     2
     (greaterThan given (shortestPaths (searchOf r sequence)))

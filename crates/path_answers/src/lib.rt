@@ -13,6 +13,7 @@ ghost use Rattle.model.specs.Calls.{nothing, firstOf, greaterThan};
 ghost use Rattle.path_answers.specs.SearchResult.{nothingIn, ResultIs};
 ghost use Rattle.path_answers.specs.PathReply.{noneAnswer, noneNumber, ReplyIs};
 
+pub mod lent;
 pub mod numbers;
 
 // What a search finds, whatever the engine: the round that applies, and a path found in it, its total, and its addresses at the start of `path`.
@@ -52,12 +53,6 @@ pub fn refused(r: Refusal) -> PathReply
         count: 0,
         path: [0u32; 17],
     }
-}
-
-pub fn refused_by(number: u32) -> PathReply
-    ensures { λ x. ⌜ ((room : ℕ) → ReplyIs (nothing (refused4 (record { number = number; place = 0 }))) room x) ⌝ }
-{
-    refused(Refusal { number, place: 0 })
 }
 
 // There is no path: for first none at all, for next none that is greater.

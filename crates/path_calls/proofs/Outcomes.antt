@@ -1,24 +1,26 @@
 -- The outcomes of first and next for a request as it was checked: refused, 33, 34, or the first of the shortest paths above the given list. From what the checks say.
-use mathlib.Core.Path.{_≡_, sym, ap, _∙_}
-use mathlib.Core.Bool.{Bool, not}
+use mathlib.Core.Path.{_≡_, refl, sym, ap, _∙_}
+use mathlib.Core.Bool.{Bool, true, false, not}
 use mathlib.Core.List.{List, []}
 use Prim.Native.Nat.{ℕ, suc, _≤_, _<_}
 use native.Mathlib.Omega.{arith}
-use lib.Dec.{eqb}
+use lib.Dec.{eqb, ltb}
 use lib.ListN.{length}
-use borrow.Author.Tests.{eq-eqb, ne-eqb, lt-ltb, le-ltb}
+use borrow.Author.Tests.{ltb-false, eqb-true}
 use Rattle.model.specs.declared.Refusal.{Refusal}
 use Rattle.model.specs.declared.Round.{Round}
+use Rattle.model.specs.declared.Verdict.{Verdict}
 use Rattle.model.specs.declared.Verdict.the-variants.{Pass, Refuse}
 use Rattle.model.specs.Lists.{below}
-use Rattle.model.specs.Verdict.{refuseIf, _andThen_}
+use Rattle.model.specs.Verdict.{refuseIf}
 use Rattle.model.specs.Profile.{layoutIn}
 use Rattle.model.specs.Sequence.{Stop, Reading}
 use Rattle.model.specs.Request.{Request, Search}
 use Rattle.model.specs.Path.{legs, keepsBound, Route, paths, admissible, shortestPaths}
 use Rattle.model.specs.Answers.{refused4}
-use Rattle.model.specs.Calls.{nothing, firstOf, answerPath, roomVerdict, pathLength, firstInto, first, greaterThan, nextInto, next}
+use Rattle.model.specs.Calls.{nothing, firstOf, answerPath, roomVerdict, givenVerdict, pathLength, firstInto, first, greaterThan, nextInto, next}
 use Rattle.laws.proofs.Lists.{keep-all, keep-mem}
+use Rattle.laws.proofs.Turns.{refuseIf-pass, andThen-pass}
 use Rattle.laws.proofs.Suffixes.{suffix-begins}
 use Rattle.laws.proofs.Cheapest.{cheapest-mem}
 use Rattle.request.specs.declared.Asked.{Asked}
@@ -37,6 +39,19 @@ all-above-nothing S =
     let k = (cheapest-mem (admissible S) m) .0 in
     let n = (keep-mem (λ (p : Route). keepsBound (S .limits) (p .total)) (paths S) k) .0 in
     ap (below []) ((suffix-begins S (legs (S .sequence)) 0 (S .source) r n) .1))
+
+-- what passes has room for a path, and a given list of its length
+pub room-there : (long room : ℕ) → roomVerdict long room ≡ Pass → long ≤ room
+room-there long room e = omega (arith, ltb-false room long (refuseIf-pass (ltb room long) 34 0 .0 e))
+
+holds : (b : Bool) → not b ≡ false → b ≡ true
+holds true e = refl
+holds false e = sym e
+
+pub given-fits : (given long room : ℕ) → givenVerdict given long room ≡ Pass → (given ≡ long) × (long ≤ room)
+given-fits given long room e =
+    let both = andThen-pass (refuseIf (not (eqb given long)) 33 0) (roomVerdict long room) .0 e in
+    (eqb-true given long (holds (eqb given long) (refuseIf-pass (not (eqb given long)) 33 0 .0 (both .0))), room-there long room (both .1))
 
 module _ (P : List ℕ) (asked : Asked) (I E : List ℕ) (r : CheckedRequest) (is : RequestIs P asked I E r) where
   abbrev req : Request
@@ -62,14 +77,13 @@ module _ (P : List ℕ) (asked : Asked) (I E : List ℕ) (r : CheckedRequest) (i
         ap (λ (y : Reading (List Stop)). firstInto req y room) (accepted-request P asked I E r is e)
         ∙ (λ j. answerPath (roomVerdict (needed j) room) (round-request P asked I E r is j) 1 (shortestPaths (search-request P asked I E r is j)))
 
-    pub first-small : r .verdict ≡ Pass → room ≤ r .query .count → first req room ≡ nothing (refused4 (record { number = 34; place = 0 }))
-    first-small e h =
-        first-accepted e ∙ ap (λ (b : Bool). answerPath (refuseIf b 34 0) x 1 (shortestPaths S)) (lt-ltb room (suc (r .query .count)) (omega arith))
+    pub first-unlent : (why : Refusal) → r .verdict ≡ Pass → roomVerdict (suc (r .query .count)) room ≡ Refuse why → first req room ≡ nothing (refused4 why)
+    first-unlent why e f = first-accepted e ∙ ap (λ (v : Verdict). answerPath v x 1 (shortestPaths S)) f
 
-    pub first-searched : r .verdict ≡ Pass → suc (r .query .count) ≤ room → first req room ≡ firstOf x 1 (greaterThan [] (shortestPaths S))
-    first-searched e h =
+    pub first-searched : r .verdict ≡ Pass → roomVerdict (suc (r .query .count)) room ≡ Pass → first req room ≡ firstOf x 1 (greaterThan [] (shortestPaths S))
+    first-searched e f =
         first-accepted e
-        ∙ ap (λ (b : Bool). answerPath (refuseIf b 34 0) x 1 (shortestPaths S)) (le-ltb room (suc (r .query .count)) (omega arith))
+        ∙ ap (λ (v : Verdict). answerPath v x 1 (shortestPaths S)) f
         ∙ ap (firstOf x 1) (sym (all-above-nothing S))
 
     module _ (given : List ℕ) where
@@ -80,33 +94,18 @@ module _ (P : List ℕ) (asked : Asked) (I E : List ℕ) (r : CheckedRequest) (i
       next-accepted
           : r .verdict ≡ Pass
           → next req given room
-          ≡ answerPath (refuseIf (not (eqb (length given) (suc (r .query .count)))) 33 0 andThen roomVerdict (suc (r .query .count)) room) x 2 (greaterThan given (shortestPaths S))
+          ≡ answerPath (givenVerdict (length given) (suc (r .query .count)) room) x 2 (greaterThan given (shortestPaths S))
       unfolding next
       next-accepted e =
           ap (λ (y : Reading (List Stop)). nextInto req y given room) (accepted-request P asked I E r is e)
           ∙ (λ j.
-          answerPath (refuseIf (not (eqb (length given) (needed j))) 33 0 andThen roomVerdict (needed j) room) (round-request P asked I E r is j) 2
+          answerPath (givenVerdict (length given) (needed j) room) (round-request P asked I E r is j) 2
           (greaterThan given (shortestPaths (search-request P asked I E r is j))))
 
-      pub next-unfit
-          : r .verdict ≡ Pass → (length given ≡ suc (r .query .count) → ⊥) → next req given room ≡ nothing (refused4 (record { number = 33; place = 0 }))
-      next-unfit e h =
-          next-accepted e
-          ∙ ap (λ (b : Bool). answerPath (refuseIf (not b) 33 0 andThen roomVerdict (suc (r .query .count)) room) x 2 (greaterThan given (shortestPaths S)))
-          (ne-eqb (length given) (suc (r .query .count)) h)
-
-      next-fit : r .verdict ≡ Pass → length given ≡ suc (r .query .count) → next req given room ≡ answerPath (roomVerdict (suc (r .query .count)) room) x 2 (greaterThan given (shortestPaths S))
-      next-fit e h =
-          next-accepted e
-          ∙ ap (λ (b : Bool). answerPath (refuseIf (not b) 33 0 andThen roomVerdict (suc (r .query .count)) room) x 2 (greaterThan given (shortestPaths S)))
-          (eq-eqb (length given) (suc (r .query .count)) h)
-
-      pub next-small
-          : r .verdict ≡ Pass → length given ≡ suc (r .query .count) → room < suc (r .query .count) → next req given room ≡ nothing (refused4 (record { number = 34; place = 0 }))
-      next-small e h k =
-          next-fit e h ∙ ap (λ (b : Bool). answerPath (refuseIf b 34 0) x 2 (greaterThan given (shortestPaths S))) (lt-ltb room (suc (r .query .count)) k)
+      pub next-unlent
+          : (why : Refusal) → r .verdict ≡ Pass → givenVerdict (length given) (suc (r .query .count)) room ≡ Refuse why → next req given room ≡ nothing (refused4 why)
+      next-unlent why e f = next-accepted e ∙ ap (λ (v : Verdict). answerPath v x 2 (greaterThan given (shortestPaths S))) f
 
       pub next-searched
-          : r .verdict ≡ Pass → length given ≡ suc (r .query .count) → suc (r .query .count) ≤ room → next req given room ≡ firstOf x 2 (greaterThan given (shortestPaths S))
-      next-searched e h k =
-          next-fit e h ∙ ap (λ (b : Bool). answerPath (refuseIf b 34 0) x 2 (greaterThan given (shortestPaths S))) (le-ltb room (suc (r .query .count)) k)
+          : r .verdict ≡ Pass → givenVerdict (length given) (suc (r .query .count)) room ≡ Pass → next req given room ≡ firstOf x 2 (greaterThan given (shortestPaths S))
+      next-searched e f = next-accepted e ∙ ap (λ (v : Verdict). answerPath v x 2 (greaterThan given (shortestPaths S))) f

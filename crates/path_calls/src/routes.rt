@@ -2,8 +2,9 @@
 use model::Verdict;
 use path_answers::PathReply;
 use path_answers::answered;
+use path_answers::lent::given_verdict;
+use path_answers::lent::room_verdict;
 use path_answers::refused;
-use path_answers::refused_by;
 use path_search::search;
 use profile_records::layout::layout_in;
 use request::Asked;
@@ -45,8 +46,9 @@ pub fn first_route(
         return refused(r);
     }
     let q = checked.query;
-    if room <= q.count {
-        return refused_by(34);
+    let fits = room_verdict(q.count, room);
+    if let Verdict::Refuse(r) = fits {
+        return refused(r);
     }
     let nothing = [0u32; 0];
     sought_route(profile, exclude, q, &nothing, false)
@@ -69,12 +71,9 @@ pub fn next_route(
         return refused(r);
     }
     let q = checked.query;
-    let needed = q.count + 1;
-    if given.len() != needed {
-        return refused_by(33);
-    }
-    if room < needed {
-        return refused_by(34);
+    let fits = given_verdict(given.len(), q.count, room);
+    if let Verdict::Refuse(r) = fits {
+        return refused(r);
     }
     sought_route(profile, exclude, q, given, true)
 }

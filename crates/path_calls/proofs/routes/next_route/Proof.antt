@@ -1,12 +1,11 @@
 -- `path_calls::routes::next_route` meets its contract, check by check in document 01's order.
--- Assumes nothing.
 use mathlib.Core.Path.{sym, subst, _∙_}
-use Prim.Native.Nat.{ℕ}
+use Prim.Native.Nat.{ℕ, suc}
 use native.Mathlib.Omega.{arith}
-use native.Mathlib.Numerals.{add-one}
+use lib.ListN.{length}
 use Rattle.model.specs.Calls.{Outcome}
 use Rattle.path_answers.specs.PathReply.{ReplyIs}
-use Rattle.path_calls.proofs.Outcomes.{next-refused, next-unfit, next-small, next-searched}
+use Rattle.path_calls.proofs.Outcomes.{next-refused, next-unlent, next-searched, given-fits}
 use borrow.Author.Needs.{needs}
 use Rattle.path_calls.proofs.routes.next_route.Statement.{statement}
 use Rattle.path_calls.proofs.routes.next_route.Tie as tie
@@ -28,34 +27,35 @@ returns c =
 enum-told : tie.Need-enum-told
 enum-told c = search needs
 
-add-needed : tie.Need-add-needed
-add-needed c = omega (arith, (c .before .before .before .before .check-request .ensures) .ready (c .before .before .enum-told .given .1) .most)
+given-verdict-requires : tie.Need-given-verdict-requires
+given-verdict-requires c κs = omega (arith, (c .before .before .before .check-request .ensures) .ready (c .before .enum-told .given .1) .most)
 
-refused-by-requires : tie.Need-refused-by-requires
-refused-by-requires c κs = search needs
+enum-known-fits : tie.Need-enum-known-fits
+enum-known-fits c = search needs
+
+refused-requires-2 : tie.Need-refused-requires-2
+refused-requires-2 c κs = search needs
 
 returns-2 : tie.Need-returns-2
 returns-2 c =
-    let a = c .before .before .before .before .before .before .before .before .before .before .before .args in
-    subst (λ (o : Outcome ℕ). ReplyIs o (a .room) (c .refused-by .result)) (sym (next-unfit (a .profile .now) (a .asked) (a .include .now) (a .exclude .now) (c .before .before .before .before .before .before .check-request .result) (c .before .before .before .before .before .before .check-request .ensures) (a .room) (a .given .now) (c .before .before .before .before .enum-told .given .1) (λ e. (c .before .if1 .taken) (e ∙ sym (add-one _))))) (c .refused-by .ensures (a .room))
+    let a = c .before .before .before .before .before .before .before .before .before .before .before .before .before .args in
+    subst (λ (o : Outcome ℕ). ReplyIs o (a .room) (c .refused2 .result)) (sym (next-unlent (a .profile .now) (a .asked) (a .include .now) (a .exclude .now) (c .before .before .before .before .before .before .before .before .check-request .result) (c .before .before .before .before .before .before .before .before .check-request .ensures) (a .room) (a .given .now) _ (c .before .before .before .before .before .before .enum-told .given .1) (sym (c .before .before .before .before .given-verdict .ensures) ∙ c .before .before .fits2 .given .1))) (c .refused2 .ensures (a .room))
 
-refused-by-requires-2 : tie.Need-refused-by-requires-2
-refused-by-requires-2 c κs = search needs
+enum-told-2 : tie.Need-enum-told-2
+enum-told-2 c = search needs
+
+sought-route-requires : tie.Need-sought-route-requires
+sought-route-requires c κs =
+    let a = c .before .before .before .before .before .before .before .before .before .before .before .args in
+    let fits = given-fits (length (a .given .now)) (suc (c .before .before .before .before .before .before .check-request .result .query .count)) (a .room) (sym (c .before .before .given-verdict .ensures) ∙ c .enum-told2 .given .1) in
+    ((c .before .before .before .before .before .before .check-request .ensures) .ready (c .before .before .before .before .enum-told .given .1), λ h. fits .0)
 
 returns-3 : tie.Need-returns-3
 returns-3 c =
     let a = c .before .before .before .before .before .before .before .before .before .before .before .before .args in
-    let small = c .before .if2 .taken in
-    subst (λ (o : Outcome ℕ). ReplyIs o (a .room) (c .refused-by2 .result)) (sym (next-small (a .profile .now) (a .asked) (a .include .now) (a .exclude .now) (c .before .before .before .before .before .before .before .check-request .result) (c .before .before .before .before .before .before .before .check-request .ensures) (a .room) (a .given .now) (c .before .before .before .before .before .enum-told .given .1) (c .before .before .if1 .left ∙ add-one _) (omega arith))) (c .refused-by2 .ensures (a .room))
-
-sought-route-requires : tie.Need-sought-route-requires
-sought-route-requires c κs = ((c .before .before .before .before .before .before .check-request .ensures) .ready (c .before .before .before .before .enum-told .given .1), λ h. c .before .if1 .left ∙ add-one _)
-
-returns-4 : tie.Need-returns-4
-returns-4 c =
-    let a = c .before .before .before .before .before .before .before .before .before .before .before .before .args in
-    let fits = c .before .if2 .left in
-    subst (λ (o : Outcome ℕ). ReplyIs o (a .room) (c .sought-route .result)) (sym (next-searched (a .profile .now) (a .asked) (a .include .now) (a .exclude .now) (c .before .before .before .before .before .before .before .check-request .result) (c .before .before .before .before .before .before .before .check-request .ensures) (a .room) (a .given .now) (c .before .before .before .before .before .enum-told .given .1) (c .before .before .if1 .left ∙ add-one _) (omega arith))) (c .sought-route .ensures (a .room) (omega arith))
+    let passed = sym (c .before .before .before .given-verdict .ensures) ∙ c .before .enum-told2 .given .1 in
+    subst (λ (o : Outcome ℕ). ReplyIs o (a .room) (c .sought-route .result)) (sym (next-searched (a .profile .now) (a .asked) (a .include .now) (a .exclude .now) (c .before .before .before .before .before .before .before .check-request .result) (c .before .before .before .before .before .before .before .check-request .ensures) (a .room) (a .given .now) (c .before .before .before .before .before .enum-told .given .1) passed))
+    (c .sought-route .ensures (a .room) (given-fits (length (a .given .now)) (suc (c .before .before .before .before .before .before .before .check-request .result .query .count)) (a .room) passed .1))
 
 pub next-route-spec : {M : Type 1} → statement M
 next-route-spec =
@@ -66,10 +66,10 @@ next-route-spec =
     refused-requires
     returns
     enum-told
-    add-needed
-    refused-by-requires
+    given-verdict-requires
+    enum-known-fits
+    refused-requires-2
     returns-2
-    refused-by-requires-2
-    returns-3
+    enum-told-2
     sought-route-requires
-    returns-4)
+    returns-3)
