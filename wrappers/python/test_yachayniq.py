@@ -5,7 +5,7 @@ import math
 import unittest
 
 import cases
-from cases import BACK, EVERY, ONWARD, P, Q, S, T, U, W, WITHOUT_P, WITHOUT_Q, Z, number, request
+from cases import BACK, EVERY, P, Q, S, T, U, W, WITHOUT_P, WITHOUT_Q, Z, number, request
 from yachayniq import Entry, Path, Profile, Stop, Tree, check_profile
 
 # 64500 with OSPF area 0, 64501 with the areas 0 and 4
