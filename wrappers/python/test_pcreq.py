@@ -80,8 +80,9 @@ class Written(unittest.TestCase):
         # Its objects stand in another order, some with P clear.
         exclude = Pcreq(1, 0, S, Z, HUNDRED_BITS, (), ONWARD, WITHOUT_Q)
         self.assertEqual(read_pcreq(vector("w-request-exclude")), exclude)
-        by_class = sorted((kind, 0x12, body) for kind, _, body in objects(vector("w-request-exclude")))
-        self.assertEqual(objects(write_pcreq(exclude)), by_class)
+        given = objects(vector("w-request-exclude"))
+        ordered = sorted((kind, 0x12, body) for kind, _, body in given)
+        self.assertEqual(objects(write_pcreq(exclude)), ordered)
         for path, number in zip(W.paths(asked.request()), (1, 2, 3), strict=True):
             reply = Pcrep.of(read_pcreq(vector("w-request")), path)
             self.assertEqual(write_pcrep(reply), vector(f"w-reply-{number}"))
@@ -109,7 +110,8 @@ class Written(unittest.TestCase):
             self.refused(37, 0, write_pcreq, Pcreq(0, 0, S, Z, include=bytes(length)))
             self.refused(37, 0, write_pcreq, Pcreq(0, 0, S, Z, exclude=bytes(length)))
         full = ONWARD * 128
-        self.assertEqual(read_pcreq(write_pcreq(Pcreq(0, 0, S, Z, 0, (), full, full))).exclude, full)
+        longest = Pcreq(0, 0, S, Z, 0, (), full, full)
+        self.assertEqual(read_pcreq(write_pcreq(longest)), longest)
         every_flag = objects(write_pcreq(Pcreq(7, 0xFFFFFFFF, S, Z)))
         self.assertEqual(every_flag[0], (2, 0x12, bytes.fromhex("0000003F 00000007")))
 
@@ -125,7 +127,8 @@ class Written(unittest.TestCase):
         self.refused(21, 1, write_pcreq, Pcreq.of(7, request(bound=-1)))
 
     def test_bound(self):
-        one, other, third = Metric(1, 0xFE, 0x40000000), Metric(3, 0x81, 0x41600000), Metric(2, 1, 0)
+        one, other = Metric(1, 0xFE, 0x40000000), Metric(3, 0x81, 0x41600000)
+        third = Metric(2, 1, 0)
         for metrics, bound in (((), None), ((one,), None), ((one, other, third), 14.0),
                                ((third, other), 0.0)):
             fields = Pcreq(7, 0, S, Z, HUNDRED_BITS, metrics, ONWARD)

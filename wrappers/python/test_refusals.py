@@ -40,12 +40,12 @@ WRONG_FORMS = {
 # The same after an address, in the body of an ERO.
 WRONG_EROS = {23: "0108C000", 24: "2004FBF2", 25: "0104C000", 26: "0108C000 02162100",
               27: "8108C000 02162000"}
+FIFTEEN = b"".join(b"\x20\x04" + n.to_bytes(2, "big") for n in range(64497, 64512))
 WRONG_MEANINGS = {
     28: (PROFILE, ONWARD[:4] + bytes.fromhex("2004FBFF"), 4),
     29: (MANY, bytes.fromhex("2004FBF5 2004FBF4"), 4),
     30: (PROFILE, BACK, 8),
-    31: (SEVENTEEN, b"".join(bytes.fromhex("2004") + n.to_bytes(2, "big") for n in range(64497, 64512))
-         + bytes.fromhex("05080000 00010000"), 60),
+    31: (SEVENTEEN, FIFTEEN + bytes.fromhex("05080000 00010000"), 60),
     32: (PROFILE, ONWARD + bytes.fromhex("0108C000 02162000"), 8),
 }
 HEADS = {

@@ -104,11 +104,11 @@ class ProfileW(unittest.TestCase):
 
     def test_destination_on_the_way(self):
         # 64496 to 64497, which is entered through the destination and left from it.
-        hops = "0000 0001 C0000201 C0000263", "0001 0001 C0000263 C0000263"
         profile = Profile(
             bytes.fromhex("445350000100000200020000")
-            + b"".join(bytes.fromhex(record).ljust(20, b"\0") for record in ("0000FBF0", "0000FBF1"))
-            + b"".join(bytes.fromhex(hop + "00000001 447A0000") for hop in hops)
+            + bytes.fromhex("0000FBF0") + bytes(16) + bytes.fromhex("0000FBF1") + bytes(16)
+            + bytes.fromhex("00000001 C0000201 C0000263 00000001 447A0000")
+            + bytes.fromhex("00010001 C0000263 C0000263 00000001 447A0000")
         )
         by_64497 = request(include=bytes.fromhex("2004FBF1"))
         self.assertEqual(profile.first(by_64497), path((S, Z, Z), 2, 2.0, 1))

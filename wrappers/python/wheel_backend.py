@@ -13,7 +13,8 @@ HERE = pathlib.Path(__file__).resolve().parent
 
 def build_wheel(wheel_directory, config_settings=None, metadata_directory=None):
     package = sorted(HERE.glob("yachayniq/*.py")) + [HERE / "yachayniq" / "py.typed"]
-    return _wheel(wheel_directory, {f"yachayniq/{file.name}": file.read_bytes() for file in package})
+    files = {f"yachayniq/{file.name}": file.read_bytes() for file in package}
+    return _wheel(wheel_directory, files)
 
 
 def build_editable(wheel_directory, config_settings=None, metadata_directory=None):
