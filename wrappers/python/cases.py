@@ -62,6 +62,30 @@ def refused(test, number, place, call, *arguments, **named) -> Refused:
     return refusal
 
 
+def table() -> dict[tuple[str, int, str], str]:
+    """What wrappers/numbers.txt has for a call, a number and a place (*: any)."""
+    names: dict[str, list[str]] = {}
+    meanings = {}
+    for line in (ROOT / "wrappers" / "numbers.txt").read_text().splitlines():
+        if "|" not in line or line.startswith("#"):
+            if " = " in line:
+                name, members = line.split(" = ")
+                names[name.strip()] = members.split()
+            continue
+        number, place, calls, meaning, counted = (part.strip() for part in line.split("|"))
+        text = meaning + (f" (place: {counted})" if counted else "")
+        for call in flat(calls.split(), names):
+            meanings[call, int(number), place] = text
+    return meanings
+
+
+def flat(calls: list[str], names: dict[str, list[str]]) -> set[str]:
+    found = set()
+    for call in calls:
+        found |= flat(names[call], names) if call in names else {call}
+    return found
+
+
 def largest() -> tuple[Profile, Request]:
     """64 domains and 3,000 hops, and the request that crosses 16 of the domains, each
     entered through 16 nodes."""

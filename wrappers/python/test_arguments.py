@@ -62,6 +62,23 @@ class Arguments(unittest.TestCase):
                    write_pcreq, Pcreq("7", 0, S, Z))
         self.wrong(TypeError, "request_id must be a whole number, not NoneType",
                    write_pcrep, Pcrep(None, None))
+        for text, call, *given in (
+            ("asked must be a Pcreq, not Request", write_pcreq, request()),
+            ("request must be a Request, not bytes", Pcreq.of, 7, ASKED),
+            ("reply must be a Pcrep, not tuple", write_pcrep, EVERY[0]),
+            ("asked must be a Pcreq, not bytes", Pcrep.of, ASKED, W.first(request())),
+            ("path must be a Path, not NoneType", Pcrep.of, read_pcreq(ASKED), None),
+            ("asked must be a Pcreq, not int", Pcrep.none, 7),
+            ("stop must be a Stop, not int", W.write_list, [0, 1, 2]),
+            ("stops must be a list of Stops, not Stop", W.write_list, Stop(0)),
+            ("after must be a Path or a list of addresses, not NoneType", W.next, request(), None),
+            ('calls must be a list of "first" and "next", not int', W.series, request(), 3),
+            ("metric must be a Metric, not int", write_pcrep, Pcrep(7, None, [1])),
+            ("metrics must be a list of Metrics, not Metric",
+             write_pcrep, Pcrep(7, None, Metric(2, 2, 0))),
+            ("addresses must be a list of addresses, or None, not int", write_pcrep, Pcrep(7, 1)),
+        ):
+            self.wrong(TypeError, text, call, *given)
 
     def test_values(self):
         for text in "", "192.0.2", "192.0.2.256", "192.0.02.1", "::1", "192.0.2.1\0", "Z\xFC":

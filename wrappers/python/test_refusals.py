@@ -8,7 +8,7 @@ import unittest
 from collections.abc import Callable
 
 import cases
-from cases import ASKED, BACK, ENDS, ONWARD, RP, ROOT, S, W, Z, metric, pcrep, pcreq, request
+from cases import ASKED, BACK, ENDS, ONWARD, RP, S, W, Z, metric, pcrep, pcreq, request
 from yachayniq import (
     Metric, Pcrep, Pcreq, Profile, Refused, Request, check_profile, read_pcrep, read_pcreq,
     write_pcrep, write_pcreq,
@@ -217,30 +217,6 @@ def every_case():
     yield from of_pcreps()
 
 
-def table() -> dict[tuple[str, int, str], str]:
-    """What wrappers/numbers.txt has for a call, a number and a place (*: any)."""
-    names: dict[str, list[str]] = {}
-    meanings = {}
-    for line in (ROOT / "wrappers" / "numbers.txt").read_text().splitlines():
-        if "|" not in line or line.startswith("#"):
-            if " = " in line:
-                name, members = line.split(" = ")
-                names[name.strip()] = members.split()
-            continue
-        number, place, calls, meaning, counted = (part.strip() for part in line.split("|"))
-        text = meaning + (f" (place: {counted})" if counted else "")
-        for call in flat(calls.split(), names):
-            meanings[call, int(number), place] = text
-    return meanings
-
-
-def flat(calls: list[str], names: dict[str, list[str]]) -> set[str]:
-    found = set()
-    for call in calls:
-        found |= flat(names[call], names) if call in names else {call}
-    return found
-
-
 def cannot_come_up(call: str, number: int) -> bool:
     return (
         number in (0, 1, 2)  # no refusals: a value, or None
@@ -258,7 +234,7 @@ class Refusals(unittest.TestCase):
     refused = cases.refused
 
     def test_every_row(self):
-        meanings, seen = table(), set()
+        meanings, seen = cases.table(), set()
         for name, number, place, call, given in every_case():
             with self.subTest(call=name, number=number, place=place):
                 refusal = self.refused(number, place, call, *given)

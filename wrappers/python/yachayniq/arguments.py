@@ -9,11 +9,13 @@ import ipaddress
 import math
 import operator
 import socket
-from typing import Any, SupportsFloat, SupportsIndex
+from collections.abc import Iterable
+from typing import SupportsFloat, SupportsIndex, TypeVar
 
 Address = str | int | ipaddress.IPv4Address
 Octets = bytes | bytearray | memoryview
 Number = SupportsFloat | SupportsIndex
+T = TypeVar("T")
 
 
 def octets(value: Octets, name: str) -> bytes:
@@ -87,9 +89,17 @@ def float_of(bits: int) -> float:
     return ctypes.c_float.from_buffer(ctypes.c_uint32(bits)).value
 
 
-def instance(value: Any, kind: type, name: str) -> None:
+def instance(value: object, kind: type, name: str) -> None:
     if not isinstance(value, kind):
         raise _wrong(name, f"a {kind.__name__}", value)
+
+
+def listed(values: Iterable[T], name: str, wanted: str) -> list[T]:
+    try:
+        each = iter(values)
+    except TypeError:
+        raise _wrong(name, wanted, values) from None
+    return list(each)
 
 
 def _wrong(name: str, wanted: str, value: object) -> TypeError:

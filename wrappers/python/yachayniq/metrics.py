@@ -5,7 +5,7 @@ from collections.abc import Iterable
 from dataclasses import dataclass
 from typing import Any
 
-from .arguments import Number, field, float_bits, float_of
+from .arguments import Number, field, float_bits, float_of, instance, listed
 
 MOST_METRICS = 5_460  # in a message of 65,535 bytes
 
@@ -37,11 +37,13 @@ class Metric:
 
 def checked(metrics: Iterable[Metric]) -> list[Metric]:
     """These METRICs, each part with a place in its field."""
-    return [
-        Metric(field(metric.kind, 8, "kind"), field(metric.flags, 8, "flags"),
-               field(metric.bits, 32, "bits"))
-        for metric in metrics
-    ]
+    return [_checked(metric) for metric in listed(metrics, "metrics", "a list of Metrics")]
+
+
+def _checked(metric: Metric) -> Metric:
+    instance(metric, Metric, "metric")
+    kind, flags = field(metric.kind, 8, "kind"), field(metric.flags, 8, "flags")
+    return Metric(kind, flags, field(metric.bits, 32, "bits"))
 
 
 class MetricRoom:

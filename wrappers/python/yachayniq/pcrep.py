@@ -4,7 +4,7 @@ import ctypes
 from collections.abc import Sequence
 from dataclasses import dataclass
 
-from .arguments import Address, Octets, dotted, field, numbered, octets
+from .arguments import Address, Octets, dotted, field, instance, listed, numbered, octets
 from .calls import library
 from .metrics import COMPUTED, TE, Metric, MetricRoom, checked
 from .pcreq import MOST_BYTES, Pcreq
@@ -33,18 +33,25 @@ class Pcrep:
     @classmethod
     def of(cls, asked: Pcreq, path: Path) -> "Pcrep":
         """The reply with a path, and its total as a METRIC: TE, computed."""
-        return cls(asked.request_id, path.addresses, (Metric.of(TE, COMPUTED, path.total_float),))
+        instance(asked, Pcreq, "asked")
+        instance(path, Path, "path")
+        total = Metric.of(TE, COMPUTED, path.total_float)
+        return cls(asked.request_id, path.addresses, (total,))
 
     @classmethod
     def none(cls, asked: Pcreq) -> "Pcrep":
         """The reply that there is no path: nature of issue 0, no flags, no METRIC."""
+        instance(asked, Pcreq, "asked")
         return cls(asked.request_id, None)
 
 
 def write_pcrep(reply: Pcrep) -> bytes:
     """The reply as a PCRep."""
+    instance(reply, Pcrep, "reply")
     found = reply.addresses is not None
-    path = [numbered(address, "addresses") for address in reply.addresses or ()]
+    nodes = () if reply.addresses is None else reply.addresses
+    nodes = listed(nodes, "addresses", "a list of addresses, or None")
+    path = [numbered(node, "addresses") for node in nodes]
     metrics = checked(reply.metrics)
     count = len(metrics)
     out = (ctypes.c_uint8 * MOST_BYTES)()

@@ -3,10 +3,12 @@
 import ctypes
 from dataclasses import dataclass
 
-from .arguments import Octets, dotted, field, float_bits, float_of, numbered, octets
+from .arguments import (
+    Octets, dotted, field, float_bits, float_of, instance, numbered, octets,
+)
 from .calls import library
 from .metrics import BOUND, TE, Metric, MetricRoom, checked
-from .refusal import unless_refused, Refused
+from .refusal import Refused, unless_refused
 from .values import Request
 
 MOST_BYTES = 65_535
@@ -37,6 +39,7 @@ class Pcreq:
     def of(cls, request_id: int, request: Request) -> "Pcreq":
         """The PCReq that asks for this, its bound as a METRIC: TE, with flag B. The
         ingress goes beside a PCReq, not into it."""
+        instance(request, Request, "request")
         bound = () if request.bound is None else (Metric.of(TE, BOUND, request.bound),)
         return cls(
             request_id, 0,
@@ -77,6 +80,7 @@ def write_pcreq(asked: Pcreq) -> bytes:
     library's reader, and refused as that refuses it. So what is written reads back
     as its fields.
     """
+    instance(asked, Pcreq, "asked")
     message = _laid_out(asked)
     _read(message, "write_pcreq")
     return message

@@ -5,7 +5,7 @@ from collections.abc import Iterable, Iterator
 
 from . import search
 from .arguments import (
-    Address, Octets, dotted, float_bits, index, instance, numbered, octets,
+    Address, Octets, dotted, float_bits, index, instance, listed, numbered, octets,
 )
 from .calls import library
 from .pcreq import destination_of
@@ -53,7 +53,9 @@ class Profile:
 
     def write_list(self, stops: Iterable[Stop]) -> bytes:
         """The list that means this sequence, read with its first domain as ingress."""
-        stops = list(stops)
+        stops = listed(stops, "stops", "a list of Stops")
+        for stop in stops:
+            instance(stop, Stop, "stop")
         count = len(stops)
         domains = [index(stop.domain, "domain") for stop in stops]
         pins = [0 if stop.pin is None else numbered(stop.pin, "pin") for stop in stops]

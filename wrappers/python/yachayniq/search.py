@@ -5,7 +5,7 @@ from collections.abc import Iterable, Iterator, Sequence
 from itertools import repeat
 from typing import Any, NamedTuple
 
-from .arguments import Address, float_of, numbered
+from .arguments import Address, float_of, listed, numbered
 from .calls import library
 from .refusal import Refused, unless_refused
 from .values import Entry, Path, Tree
@@ -77,7 +77,7 @@ def _on_from(asked: Asked, path: Path | None) -> Iterator[Path]:
 
 
 def series(asked: Asked, calls: Iterable[str]) -> list[Path | None | Refused]:
-    kinds = [_kind(call) for call in calls]
+    kinds = [_kind(call) for call in listed(calls, "calls", 'a list of "first" and "next"')]
     count = len(kinds)
     room = MOST_ADDRESSES * count
     buffers = (ctypes.c_uint32 * room)(*_unlike(asked.destination, count))
@@ -101,7 +101,8 @@ def series(asked: Asked, calls: Iterable[str]) -> list[Path | None | Refused]:
 def addresses_of(after: Path | Iterable[Address]) -> Sequence[int]:
     if isinstance(after, Path):
         return after.numbers
-    return [numbered(address, "after") for address in after]
+    addresses = listed(after, "after", "a Path or a list of addresses")
+    return [numbered(address, "after") for address in addresses]
 
 
 def _make(asked: Asked, name: str, none: int, *lent: Any) -> int:
