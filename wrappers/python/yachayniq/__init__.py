@@ -8,7 +8,8 @@
 What the library refuses is raised as Refused, with its number, its place and what
 they mean. Addresses are given as dotted text, a whole number or an
 ipaddress.IPv4Address, and got as text (`addresses`) or as numbers (`numbers`). An
-argument of a wrong type is a TypeError, a text that is no address a ValueError.
+argument of a wrong type is a TypeError (a bool is no number), a text that is no
+address a ValueError.
 
 An exclusion with X set is only desired: if there is one, and no path keeps the
 bound with all exclusions, only those with X clear count, and the tree and the
