@@ -4,7 +4,7 @@ says that there is none, and with why a message is refused.
 Run from the top of the repository, with wrappers/python in PYTHONPATH.
 """
 
-from yachayniq import Metric, Pcrep, Profile, Refused, read_pcreq, write_pcrep
+from yachayniq import Pcrep, Profile, Refused, read_pcreq, write_pcrep
 
 ASKED = bytes.fromhex(
     "20030030"  # PCReq of 48 bytes
@@ -24,12 +24,9 @@ profile = Profile(open("examples/w.dsp", "rb").read())
 
 
 def answer(message: bytes) -> None:
-    request = read_pcreq(message)
-    replies = [
-        Pcrep(request.request_id, path.addresses, [Metric.of(2, 2, path.total_float)])
-        for path in profile.pcreq_paths(message)
-    ]
-    for reply in replies or [Pcrep(request.request_id, None)]:
+    asked = read_pcreq(message)
+    replies = [Pcrep.of(asked, path) for path in profile.pcreq_paths(message)]
+    for reply in replies or [Pcrep.none(asked)]:
         print(write_pcrep(reply).hex(" ", 4).upper())
 
 

@@ -1,48 +1,19 @@
 """The wrapper on messages: document 01's request as a PCReq, its paths as PCReps,
 and each refusal of a message."""
 
-import pathlib
 import unittest
 
+import cases
+from cases import (
+    ASKED, ENDS, EVERY, MODEL, NO_PATH, ONWARD, P, Q, RP, S, T, U, WITHOUT_Q, XRO, Z,
+    metric, pcrep, pcreq,
+)
 from yachayniq import (
-    Metric, Pcrep, Pcreq, Profile, Refused, Request, read_pcrep, read_pcreq, write_pcrep,
+    Metric, Pcrep, Pcreq, Profile, Request, read_pcrep, read_pcreq, write_pcrep,
 )
 
-W = Profile((pathlib.Path(__file__).parents[2] / "examples" / "w.dsp").read_bytes())
-S, P, Q, T, U, Z = ("192.0.2.%d" % last for last in (1, 11, 12, 21, 22, 99))
-EVERY = [(S, P, U, Z), (S, Q, T, Z), (S, Q, U, Z)]
-ONWARD = bytes.fromhex("2004FBF1 2004FBF2")
-WITHOUT_Q = bytes.fromhex("0108C000 020C2001")
-
-RP = bytes.fromhex("0212000C 00000000 00000007")
-ENDS = bytes.fromhex("0412000C C0000201 C0000263")
-HUNDRED = bytes.fromhex("05120008 42C80000")
-IRO = bytes.fromhex("0A12000C 2004FBF1 2004FBF2")
-XRO = bytes.fromhex("11120010 00000000 0108C000 020C2001")
-NO_PATH = bytes.fromhex("03100008 01800000")
-MODEL = RP, ENDS, HUNDRED, IRO
-ASKED = bytes.fromhex(
-    "20030030 0212000C 00000000 00000007 0412000C C0000201 C0000263"
-    "05120008 42C80000 0A12000C 2004FBF1 2004FBF2"
-)
+W = Profile(cases.W)
 TOTAL = Metric(2, 2, 0x41600000)
-
-
-def pcreq(*objects: bytes) -> bytes:
-    return message(3, objects)
-
-
-def pcrep(*objects: bytes) -> bytes:
-    return message(4, objects)
-
-
-def message(kind: int, objects: tuple) -> bytes:
-    body = b"".join(objects)
-    return bytes([0x20, kind]) + (4 + len(body)).to_bytes(2, "big") + body
-
-
-def metric(kind: int, flags: int, bits: int) -> bytes:
-    return bytes.fromhex("0610000C 0000") + bytes([flags, kind]) + bits.to_bytes(4, "big")
 
 
 def replied(inner: str) -> bytes:
@@ -56,11 +27,7 @@ def replied(inner: str) -> bytes:
 
 
 class Messages(unittest.TestCase):
-    def refused(self, number, place, call, *arguments):
-        with self.assertRaises(Refused) as raised:
-            call(*arguments)
-        refusal = raised.exception
-        self.assertEqual((refusal.number, refusal.place), (number, place))
+    refused = cases.refused
 
     def listed(self, *objects):
         paths = list(W.pcreq_paths(pcreq(*objects)))
@@ -102,7 +69,8 @@ class Messages(unittest.TestCase):
     def test_replies(self):
         for path, inner in zip(W.pcreq_paths(ASKED), ("0B16", "0C15", "0C16"), strict=True):
             self.assertEqual(Metric.of(2, 2, path.total_float), TOTAL)
-            reply = Pcrep(read_pcreq(ASKED).request_id, path.addresses, (TOTAL,))
+            reply = Pcrep(7, path.addresses, (TOTAL,))
+            self.assertEqual(Pcrep.of(read_pcreq(ASKED), path), reply)
             written = write_pcrep(reply)
             self.assertEqual(written, replied(inner))
             self.assertEqual(read_pcrep(written), reply)
@@ -114,6 +82,7 @@ class Messages(unittest.TestCase):
             Pcrep(0, None, (TOTAL,) * 5459),
         ):
             self.assertEqual(read_pcrep(write_pcrep(reply)), reply)
+        self.assertEqual(Pcrep.none(read_pcreq(ASKED)), Pcrep(7, None))
         no_path = Pcrep(7, None, nature=1, c=True)
         self.assertEqual(write_pcrep(no_path), pcrep(RP, NO_PATH))
         every_flag = write_pcrep(Pcrep(7, None, rp_flags=0xFFFFFFFF))
@@ -125,7 +94,7 @@ class Messages(unittest.TestCase):
             self.refused(number, place, W.pcreq_tree, wrong)
             self.refused(number, place, W.pcreq_first, wrong)
             self.refused(number, place, W.pcreq_next, wrong, EVERY[0])
-            self.refused(number, place, list, W.pcreq_paths(wrong))
+            self.refused(number, place, W.pcreq_paths, wrong)
 
         refused(36, 0, b"")
         refused(36, 0, ASKED + bytes(4))

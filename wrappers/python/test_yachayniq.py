@@ -2,17 +2,11 @@
 on desired exclusions and on wide costs."""
 
 import math
-import pathlib
 import unittest
 
-from yachayniq import Entry, Path, Profile, Refused, Request, Stop, Tree, check_profile
-
-W = (pathlib.Path(__file__).parents[2] / "examples" / "w.dsp").read_bytes()
-S, P, Q, T, U, Z = ("192.0.2.%d" % last for last in (1, 11, 12, 21, 22, 99))
-EVERY = [(S, P, U, Z), (S, Q, T, Z), (S, Q, U, Z)]
-ONWARD = bytes.fromhex("2004FBF1 2004FBF2")
-WITHOUT_P, WITHOUT_Q = (bytes.fromhex(f"0108C00002{last}2001") for last in ("0B", "0C"))
-BACK = bytes.fromhex("05080000 0000FBF1 05080000 0000FBF0")
+import cases
+from cases import BACK, EVERY, P, Q, S, T, U, W, WITHOUT_P, WITHOUT_Q, Z, number, request
+from yachayniq import Entry, Path, Profile, Stop, Tree, check_profile
 
 # 64500 with OSPF area 0, 64501 with the areas 0 and 4
 AREAS = bytes.fromhex("445350000100000300000000") + b"".join(
@@ -25,20 +19,15 @@ WRITTEN = bytes.fromhex(
 )
 
 
-def request(**changes) -> Request:
-    asked = {"source": S, "destination": Z, "include": ONWARD, "bandwidth": 100.0}
-    return Request(**(asked | changes))
+def path(addresses, *rest) -> Path:
+    return Path(tuple(map(number, addresses)), *rest)
 
 
 class ProfileW(unittest.TestCase):
     def setUp(self):
         self.w = Profile(W)
 
-    def refused(self, number, place, call, *arguments, **named):
-        with self.assertRaises(Refused) as raised:
-            call(*arguments, **named)
-        refusal = raised.exception
-        self.assertEqual((refusal.number, refusal.place), (number, place))
+    refused = cases.refused
 
     def listed(self, in_round=1, **changes):
         paths = list(self.w.paths(request(**changes)))
@@ -49,14 +38,16 @@ class ProfileW(unittest.TestCase):
     def costed(self, in_round, costs, **changes):
         """What S, P, Q, T and U cost; 0 where Z can't be reached."""
         nodes = (0, S), (1, P), (1, Q), (2, T), (2, U)
-        entries = (Entry(*node, cost != 0, cost) for node, cost in zip(nodes, costs))
-        expected = Tree(tuple(entries), 8 * in_round, in_round)
-        self.assertEqual(self.w.tree(request(**changes)), expected)
+        tree = self.w.tree(request(**changes))
+        self.assertEqual((tree.tally, tree.round), (8 * in_round, in_round))
+        for entry, (level, address), cost in zip(tree.entries, nodes, costs, strict=True):
+            self.assertEqual(entry, Entry(level, number(address), cost != 0, cost))
+            self.assertEqual(entry.address, address)
 
     def test_tree(self):
         self.costed(1, (14, 4, 11, 2, 3))
         tree = self.w.tree(request(include=b""))
-        self.assertEqual(tree, Tree((Entry(0, S, False, 0),), 0, 1))
+        self.assertEqual(tree, Tree((Entry(0, number(S), False, 0),), 0, 1))
 
     def test_paths(self):
         self.assertEqual(self.listed(), EVERY)
@@ -89,25 +80,54 @@ class ProfileW(unittest.TestCase):
         # against the whole number.
         t, u = (bytes.fromhex(cost) for cost in ("00FFFFF5", "00FFFFF6"))
         wide = Profile(W[:204] + t + W[208:224] + u + W[228:])
-        path = wide.first(request())
-        self.assertEqual(path, Path((S, P, U, Z), 16777217, 16777216.0, 1))
-        self.assertIsNone(wide.first(request(bound=path.total_float)))
+        found = wide.first(request())
+        self.assertEqual(found, path((S, P, U, Z), 16777217, 16777216.0, 1))
+        self.assertIsNone(wide.first(request(bound=found.total_float)))
         self.assertIsNone(wide.first(request(bound=16777217.0)))  # the same as a 32-bit float
-        self.assertEqual(wide.first(request(bound=16777218.0)), path)
+        self.assertEqual(wide.first(request(bound=16777218.0)), found)
         self.refused(17, 10, Profile, W[:224] + b"\x01" + W[225:])
 
     def test_first_and_next(self):
-        path = self.w.first(request())
-        self.assertEqual(path, Path((S, P, U, Z), 14, 14.0, 1))
+        first = self.w.first(request())
+        self.assertEqual(first, path((S, P, U, Z), 14, 14.0, 1))
+        self.assertEqual(first.addresses, (S, P, U, Z))
+        self.assertEqual(
+            repr(first),
+            "Path(addresses=('192.0.2.1', '192.0.2.11', '192.0.2.22', '192.0.2.99'), "
+            "total=14, total_float=14.0, round=1)",
+        )
         self.assertIsNone(self.w.first(request(include=b"")))
-        self.assertEqual(self.w.next(request(), (S, P, T, Z)), path)
-        self.assertEqual(self.w.next(request(), path).addresses, (S, Q, T, Z))
+        self.assertEqual(self.w.next(request(), (S, P, T, Z)), first)
+        self.assertEqual(self.w.next(request(), first).addresses, (S, Q, T, Z))
         self.assertIsNone(self.w.next(request(), (S, Q, U, Z)))
         self.refused(33, 0, self.w.next, request(), (S, P, Z))
 
-    def test_addresses_as_numbers(self):
-        path = self.w.first(request(source=0xC0000201, destination=0xC0000263))
-        self.assertEqual(path.addresses, (S, P, U, Z))
+    def test_destination_on_the_way(self):
+        # 64496 to 64497, which is entered through the destination and left from it.
+        profile = Profile(
+            bytes.fromhex("445350000100000200020000")
+            + bytes.fromhex("0000FBF0") + bytes(16) + bytes.fromhex("0000FBF1") + bytes(16)
+            + bytes.fromhex("00000001 C0000201 C0000263 00000001 447A0000")
+            + bytes.fromhex("00010001 C0000263 C0000263 00000001 447A0000")
+        )
+        by_64497 = request(include=bytes.fromhex("2004FBF1"))
+        self.assertEqual(profile.first(by_64497), path((S, Z, Z), 2, 2.0, 1))
+        self.assertEqual(profile.series(by_64497, ["first"]), [path((S, Z, Z), 2, 2.0, 1)])
+        message = cases.pcreq(cases.RP, cases.ENDS, bytes.fromhex("0A120008 2004FBF1"))
+        self.assertEqual(profile.pcreq_first(message), path((S, Z, Z), 2, 2.0, 1))
+
+    def test_largest(self):
+        profile, asked = cases.largest()
+        tree = profile.tree(asked)
+        self.assertEqual((len(tree.entries), tree.tally, tree.round), (241, 3000, 1))
+        nodes = [0xC6336400 + 16 * level + j for level in range(1, 16) for j in range(16)]
+        self.assertEqual([entry.number for entry in tree.entries], [number(S), *nodes])
+        levels = [0, *(level for level in range(1, 16) for _ in range(16))]
+        self.assertEqual([entry.level for entry in tree.entries], levels)
+        self.assertTrue(all(entry.reachable is True for entry in tree.entries))
+        first = profile.first(asked)
+        self.assertEqual((len(first.numbers), first.total), (17, tree.entries[0].cost))
+        self.assertEqual((first.addresses[0], first.addresses[16]), (S, "192.0.2.254"))
 
     def test_refusals(self):
         for call in self.w.tree, self.w.first:
@@ -120,7 +140,7 @@ class ProfileW(unittest.TestCase):
                 self.refused(21, 1, call, request(bound=wrong))
             self.refused(22, 0, call, request(include=bytes(1025)))
             self.refused(22, 1, call, request(exclude=bytes(1025)))
-        self.refused(30, 8, list, self.w.paths(request(include=BACK)))
+        self.refused(30, 8, self.w.paths, request(include=BACK))
 
     def test_profiles(self):
         check_profile(W)
