@@ -77,7 +77,7 @@ static void walked(chain *made)
     memset(&path, 0, sizeof path);
     EXPECT(is(yq_calls_get(&calls, 0, &path), 0, 0) && is_chain(&path, made));
     EXPECT(is(yq_calls_get(&calls, 1, &path), 2, 0) && is_chain(&path, made));
-    yq_pcreq_of(&asked, &request, 1);
+    yq_pcreq_of(&asked, 1, &request);
     EXPECT(is(yq_pcreq_write(&asked, &message), 0, 0));
     yq_bytes bytes = {message.bytes, message.count};
     memset(&path, 0, sizeof path);

@@ -12,7 +12,7 @@ static yq_message out;
 static void ask_w(void)
 {
     yq_request request = request_w();
-    yq_pcreq_of(&asked, &request, 1);
+    yq_pcreq_of(&asked, 1, &request);
 }
 
 static void add_metric(uint8_t kind, uint8_t flags, uint32_t value)
@@ -224,7 +224,7 @@ static void bounds(void)
     request = yq_pcreq_request(&asked, 0);
     EXPECT(request.bounded && request.bound == 13);
     request.bound = 14;
-    yq_pcreq_of(&asked, &request, 9);
+    yq_pcreq_of(&asked, 9, &request);
     EXPECT(asked.request_id == 9 && asked.rp_flags == 0);
     EXPECT(asked.metrics.count == 1 && asked.metrics.kinds[0] == 2);
     EXPECT(asked.metrics.flags[0] == 1 && asked.metrics.values[0] == 0x41600000);
@@ -234,7 +234,7 @@ static void bounds(void)
  * that its message has. */
 static void carried(yq_request request, size_t count)
 {
-    yq_pcreq_of(&asked, &request, 7);
+    yq_pcreq_of(&asked, 7, &request);
     reads_back();
     yq_request again = yq_pcreq_request(&read, request.ingress);
     yq_paths paths = yq_profile_paths(&w, &request);

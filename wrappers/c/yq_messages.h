@@ -37,7 +37,7 @@ typedef struct {
     yq_start((profile)->bytes), (profile)->bytes.count, (ingress), \
     yq_start(message), (message).count
 
-/* The tree of the request that a PCReq carries. Takes 3.2 KB of stack beside the
+/* The tree of the request that a PCReq carries. Takes 3.4 KB of stack beside the
  * call's. */
 static inline yq_answer yq_profile_pcreq_tree(const yq_profile *profile,
                                               uint16_t ingress,

@@ -3,7 +3,7 @@
  * carries.
  *
  *     yq_pcreq asked;
- *     yq_pcreq_of(&asked, &request, 7);
+ *     yq_pcreq_of(&asked, 7, &request);
  *     yq_message out;
  *     yq_answer answer = yq_pcreq_write(&asked, &out);
  *
@@ -107,8 +107,8 @@ static inline yq_request yq_pcreq_request(const yq_pcreq *asked, uint16_t ingres
 
 /* The PCReq that carries a request, whose lists it shares. It has no place for
  * the ingress; the bound is a METRIC of type TE. */
-static inline void yq_pcreq_of(yq_pcreq *asked, const yq_request *request,
-                               uint32_t request_id)
+static inline void yq_pcreq_of(yq_pcreq *asked, uint32_t request_id,
+                               const yq_request *request)
 {
     asked->request_id = request_id;
     asked->rp_flags = 0;
