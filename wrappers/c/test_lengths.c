@@ -152,6 +152,13 @@ static void any_order(void)
     EXPECT(paths >= 60);
 }
 
+/* END-POINTS of another type, with P clear, are skipped. */
+static void other_ends(void)
+{
+    EXPECT(beside_plain(PCREQ(RP, 4, 0x20, 0, 12, 0, 0, 0, 0, 192, 0, 2, U, ENDS,
+                              IRO)) == 0);
+}
+
 /* Damaged in up to three bytes and cut off, in memory of just that length. */
 static void damaged(void)
 {
@@ -182,6 +189,7 @@ int main(int count, char **arguments)
     open_w(count, arguments);
     lengths();
     any_order();
+    other_ends();
     damaged();
     return 0;
 }

@@ -135,7 +135,12 @@ static void replies(void)
                                 HOP(every[i][1]), HOP(Z),
                                 METRIC(2, 2, 0x41, 0x60))));
     }
+    paths.path.count = 1000; /* more than a path has */
+    yq_pcrep_path(&reply, &request, &paths.path);
+    EXPECT(reply.found && reply.count == 0);
+    request.rp_flags = 0x3F;
     yq_pcrep_no_path(&reply, &request);
+    EXPECT(!reply.found && reply.rp_flags == 0);
     read_back();
     reply.nature = 1;
     reply.c_flag = true;

@@ -49,7 +49,7 @@ static yq_bytes vector(const char *name)
 }
 
 /* What is written reads back as the same fields, and its objects stand in
- * order, each with P set. */
+ * order, each with P set, and none is empty. */
 static void reads_back(void)
 {
     EXPECT(is(yq_pcreq_write(&asked, &out), 0, 0));
@@ -66,12 +66,17 @@ static void reads_back(void)
         EXPECT(read.metrics.flags[i] == asked.metrics.flags[i]);
         EXPECT(read.metrics.values[i] == asked.metrics.values[i]);
     }
+    const uint8_t rp[] = {2, 0x12, 0, 12, 0, 0, 0, asked.rp_flags & 0x3F};
+    EXPECT(memcmp(out.bytes + 4, rp, sizeof rp) == 0);
     uint8_t last = 0;
     for (size_t at = 4; at < out.count;) {
         const uint8_t *object = out.bytes + at;
+        size_t length = (size_t)object[2] << 8 | object[3];
         EXPECT(object[1] == 0x12 && (object[0] > last || object[0] == 6));
+        EXPECT(length > (object[0] == 17 ? 8 : 4));
+        EXPECT(object[0] != 5 || asked.bandwidth != 0);
         last = object[0];
-        at += (size_t)object[2] << 8 | object[3];
+        at += length;
     }
 }
 
@@ -200,6 +205,8 @@ static void refusals(void)
         ask_w();
     }
     asked.metrics.count = 1000000;
+    refused(37, 0);
+    asked.metrics.count = (size_t)1 << 62; /* of 12 bytes each: 0 in 64 bits */
     refused(37, 0);
     asked.bandwidth = 0x7F800000;
     refused(21, 0);

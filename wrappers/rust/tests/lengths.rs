@@ -130,6 +130,15 @@ fn any_order() {
     assert!(paths >= 60, "{paths} paths");
 }
 
+/// END-POINTS of another type, with P clear, are skipped.
+#[test]
+fn other_ends() {
+    let other = "0420000C 00000000 C0000216";
+    let iro = "0A12000C 2004FBF1 2004FBF2";
+    let first = beside_read(&pcreq(&[RP, other, ENDS, iro]));
+    assert_eq!(first.unwrap().unwrap().addresses, EVERY[0]);
+}
+
 /// Damaged in up to three bytes, and cut off.
 #[test]
 fn damaged() {

@@ -7,7 +7,7 @@ use std::net::Ipv4Addr;
 use yachayniq::{read_pcreq, write_pcreq, Call, Metric, Path, Pcreq, Request};
 
 /// What is written reads back as the same fields, and its objects stand in
-/// order, each with P set.
+/// order, each with P set, and none is empty.
 #[track_caller]
 fn reads_back(asked: &Pcreq) -> Vec<u8> {
     let written = write_pcreq(asked).unwrap();
@@ -16,9 +16,13 @@ fn reads_back(asked: &Pcreq) -> Vec<u8> {
         ..asked.clone()
     };
     assert_eq!(read_pcreq(&written), Ok(expected));
+    assert_eq!(written[8..12], (asked.rp_flags & 0x3F).to_be_bytes());
     let (mut rest, mut last) = (&written[4..], 0);
     while let [class, bits, high, low, ..] = *rest {
         assert_eq!(bits, 0x12);
+        assert!(class != 5 || asked.bandwidth_bits != 0);
+        assert!(class != 10 || !asked.include.is_empty());
+        assert!(class != 17 || !asked.exclude.is_empty());
         assert!(class > last || class == 6, "{class} after {last}");
         last = class;
         rest = &rest[usize::from(u16::from_be_bytes([high, low]))..];
