@@ -12,6 +12,7 @@ static const uint8_t back[] = {5, 8, 0, 0, 0, 0, 0xFB, 0xF1,  /* AS 64497 */
 static void print_all(const yq_profile *profile, const yq_request *request)
 {
     yq_paths paths = yq_profile_paths(profile, request);
+    char line[YQ_LINE];
     while (yq_paths_next(&paths)) {
         for (size_t i = 0; i < paths.path.count; i++) {
             uint32_t node = paths.path.addresses[i];
@@ -21,8 +22,7 @@ static void print_all(const yq_profile *profile, const yq_request *request)
         printf("total %u\n", paths.path.total);
     }
     if (paths.answer.number >= 10)
-        printf("refused: number %u, place %u\n", paths.answer.number,
-               paths.answer.place);
+        puts(yq_explain(paths.answer, line));
 }
 
 int main(void)

@@ -5,51 +5,38 @@
 
 #include "yq_messages.h"
 
-#define OBJECTS \
-    2, 0x12, 0, 12, 0, 0, 0, 0, 0, 0, 0, 7,      /* RP: request 7 */ \
-    4, 0x12, 0, 12, 192, 0, 2, 1, 192, 0, 2, 99, /* END-POINTS */ \
-    5, 0x12, 0, 8, 0x42, 0xC8, 0, 0,             /* BANDWIDTH: 100.0 */ \
-    10, 0x12, 0, 12, 32, 4, 0xFB, 0xF1,          /* IRO: AS 64497, */ \
-    32, 4, 0xFB, 0xF2                            /* AS 64498 */
+static const uint8_t include[] = {32, 4, 0xFB, 0xF1,  /* AS 64497 */
+                                  32, 4, 0xFB, 0xF2}; /* AS 64498 */
 
-static const uint8_t asked[] = {0x20, 3, 0, 48, OBJECTS};
-/* the same with a METRIC: TE, at most 13.0 */
-static const uint8_t bounded[] = {0x20, 3, 0, 60, OBJECTS,
-                                  6, 0x10, 0, 12, 0, 0, 1, 2, 0x41, 0x50, 0, 0};
-/* RP, and END-POINTS of type 2, with P set */
-static const uint8_t unknown[] = {0x20, 3, 0, 20,
-                                  2, 0x12, 0, 12, 0, 0, 0, 0, 0, 0, 0, 7,
-                                  4, 0x22, 0, 4};
+/* Each has the room that the largest message needs, too much for some stacks. */
+static yq_pcreq asked;
+static yq_pcrep reply;
+static yq_message in, out;
 
-static void print(const yq_pcrep *reply)
+static void print_reply(void)
 {
-    yq_message out;
-    if (yq_pcrep_write(reply, &out).number != 0)
-        return;
+    yq_pcrep_write(&reply, &out);
     for (size_t i = 0; i < out.count; i++)
         printf("%02X%s", out.bytes[i],
                i + 1 == out.count ? "\n" : i % 4 == 3 ? " " : "");
 }
 
-static void answer(const yq_profile *profile, const uint8_t *at, size_t count)
+/* Answers the message in `in`. What can't be read has no paths either. */
+static void answer(const yq_profile *profile)
 {
-    yq_bytes message = {at, count};
-    yq_pcreq request;
-    yq_pcrep reply;
-    yq_answer answer = yq_pcreq_read(message, &request);
-    if (answer.number == 0) {
-        yq_pcreq_paths paths = yq_profile_pcreq_paths(profile, 0, message);
-        while (yq_pcreq_paths_next(&paths)) {
-            yq_pcrep_path(&reply, &request, &paths.path);
-            print(&reply);
-        }
-        answer = paths.answer;
+    yq_bytes message = {in.bytes, in.count};
+    yq_pcreq_paths paths = yq_profile_pcreq_paths(profile, 0, message);
+    char line[YQ_LINE];
+    yq_pcreq_read(message, &asked);
+    while (yq_pcreq_paths_next(&paths)) {
+        yq_pcrep_path(&reply, &asked, &paths.path);
+        print_reply();
     }
-    if (answer.number == 1) {
-        yq_pcrep_no_path(&reply, &request);
-        print(&reply);
-    } else if (answer.number >= 10) {
-        printf("refused: number %u, place %u\n", answer.number, answer.place);
+    if (paths.answer.number == 1) {
+        yq_pcrep_no_path(&reply, &asked);
+        print_reply();
+    } else if (paths.answer.number >= 10) {
+        puts(yq_explain(paths.answer, line));
     }
 }
 
@@ -62,8 +49,17 @@ int main(void)
     yq_profile profile;
     if (yq_profile_open(&profile, bytes, sizeof bytes).number != 0)
         return 1;
-    answer(&profile, asked, sizeof asked);
-    answer(&profile, bounded, sizeof bounded);
-    answer(&profile, unknown, sizeof unknown);
+    yq_request request = {.source = 0xC0000201, .destination = 0xC0000263,
+                          .include = {include, sizeof include}, .bandwidth = 100};
+    yq_pcreq_of(&asked, 7, &request);
+    yq_pcreq_write(&asked, &in);
+    answer(&profile);
+    request.bounded = true;
+    request.bound = 13;
+    yq_pcreq_of(&asked, 7, &request);
+    yq_pcreq_write(&asked, &in);
+    answer(&profile);
+    in.bytes[17] = 0x22; /* END-POINTS of type 2, with P set */
+    answer(&profile);
     return 0;
 }

@@ -1,6 +1,7 @@
 //! Prints PCEP messages, and beside each what this project takes it to say, for
 //! `tests/wireshark`: a line `message` with the bytes, then a line for each
-//! object's frame and for each field, as the library reads it.
+//! object's frame and for each field, as the library reads it. PCReqs that the
+//! Rust wrapper wrote are taken from standard input, one to a line.
 
 use reference::generate::{self, Random};
 use tests::by_hand::messages::*;
@@ -29,6 +30,9 @@ fn main() {
     for seed in 0..100 {
         show("made", &made_request(seed));
         show("made", &made_reply(seed));
+    }
+    for line in std::io::stdin().lines() {
+        show("wrapper", &hex(&line.expect("lines of digits")));
     }
 }
 

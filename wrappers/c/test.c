@@ -1,44 +1,18 @@
 /* The wrapper on document 01's worked examples, each call and each kind of
- * answer, on desired exclusions and on wide costs. The first argument is the
- * file of profile W. */
+ * answer, on desired exclusions and on wide costs. */
 #include <math.h>
-#include <stdio.h>
-#include <stdlib.h>
 
-#include "yq_profile.h"
-
-#define EXPECT(fact) \
-    ((fact) ? (void)0 : (printf("%s:%d: %s\n", __FILE__, __LINE__, #fact), exit(1)))
-
-#define NODE(last) (0xC0000200u + (last))
-
-enum { S = 1, P = 11, Q = 12, T = 21, U = 22, Z = 99 };
+#include "testing.h"
 
 enum { DESIRED = 0x80 }; /* X set */
 #define WITHOUT(x, last) (x) | 1, 8, 192, 0, 2, (last), 32, 1
 
-static const uint8_t onward[] = {32, 4, 0xFB, 0xF1, 32, 4, 0xFB, 0xF2};
 static const uint8_t through_u[] = {32, 4, 0xFB, 0xF1, 1, 8, 192, 0, 2, U,
                                     32, 0, 32, 4, 0xFB, 0xF2};
 static const uint8_t back[] = {5, 8, 0, 0, 0, 0, 0xFB, 0xF1,
                                5, 8, 0, 0, 0, 0, 0xFB, 0xF0};
 static const uint8_t without_q[] = {WITHOUT(0, Q)};
 static const uint8_t too_long[1025] = {0};
-
-static uint8_t w_bytes[232];
-static yq_profile w;
-
-static bool is(yq_answer answer, uint32_t number, uint32_t place)
-{
-    return answer.number == number && answer.place == place;
-}
-
-static yq_request request(void)
-{
-    yq_request asked = {.source = NODE(S), .destination = NODE(Z),
-                        .include = {onward, sizeof onward}, .bandwidth = 100};
-    return asked;
-}
 
 /* The shortest paths of a request, each of total 14 and of this round, in the
  * last bytes of their inner nodes. */
@@ -86,7 +60,7 @@ static void tree(void)
 {
     static const uint8_t costs[] = {14, 4, 11, 2, 3};
     yq_entries tree;
-    yq_request asked = request();
+    yq_request asked = request_w();
     costed_in(1, asked, costs);
     asked.include.at = NULL;
     asked.include.count = 0;
@@ -100,21 +74,21 @@ static void paths(void)
 {
     static const uint8_t every[][2] = {{P, U}, {Q, T}, {Q, U}};
     static const uint8_t by_u[][2] = {{P, U}, {Q, U}};
-    yq_request asked = request();
+    yq_request asked = request_w();
     listed(asked, 3, every);
     asked.bounded = true;
     asked.bound = 14;
     listed(asked, 3, every);
     asked.bound = 13;
     listed(asked, 0, NULL);
-    asked = request();
+    asked = request_w();
     asked.bandwidth = nextafterf(100, 101);
     listed(asked, 2, every);
-    asked = request();
+    asked = request_w();
     asked.exclude.at = without_q;
     asked.exclude.count = sizeof without_q;
     listed(asked, 1, every);
-    asked = request();
+    asked = request_w();
     asked.include.at = through_u;
     asked.include.count = sizeof through_u;
     listed(asked, 2, by_u);
@@ -133,7 +107,7 @@ static void rounds(void)
         {{WITHOUT(0, P), WITHOUT(0, Q)}, 16, 1, 0, {{0}}, {0, 0, 0, 2, 3}},
     };
     for (size_t i = 0; i < sizeof cases / sizeof *cases; i++) {
-        yq_request asked = request();
+        yq_request asked = request_w();
         asked.exclude.at = cases[i].exclude;
         asked.exclude.count = cases[i].bytes;
         listed_in(cases[i].round, asked, cases[i].paths, cases[i].inner);
@@ -142,7 +116,7 @@ static void rounds(void)
     /* AS 64511, which W lacks: the bound alone leaves no path in either round,
      * and the tree, which it isn't applied to, is of the second. */
     static const uint8_t lacking[] = {DESIRED | 32, 4, 0xFB, 0xFF};
-    yq_request asked = request();
+    yq_request asked = request_w();
     asked.exclude.at = lacking;
     asked.exclude.count = sizeof lacking;
     asked.bounded = true;
@@ -158,7 +132,7 @@ static void wide_costs(void)
     uint8_t bytes[sizeof w_bytes];
     yq_profile wide;
     yq_path path;
-    yq_request asked = request();
+    yq_request asked = request_w();
     memcpy(bytes, w_bytes, sizeof bytes);
     bytes[205] = bytes[206] = bytes[225] = bytes[226] = 0xFF;
     bytes[207] = 0xF5;
@@ -178,7 +152,7 @@ static void wide_costs(void)
 
 static void next(void)
 {
-    yq_request asked = request();
+    yq_request asked = request_w();
     yq_path given = {.count = 4, .addresses = {NODE(S), NODE(P), NODE(T), NODE(Z)}};
     yq_path path;
     EXPECT(is(yq_profile_next(&w, &asked, &given, &path), 0, 0));
@@ -205,22 +179,22 @@ static void refused(yq_request asked, uint32_t number, uint32_t place)
 static void refusals(void)
 {
     const float wrong[] = {-1.0f, -0.0f, INFINITY, NAN};
-    yq_request asked = request();
+    yq_request asked = request_w();
     asked.include.at = back;
     asked.include.count = sizeof back;
     refused(asked, 30, 8);
-    asked = request();
+    asked = request_w();
     asked.ingress = 3;
     refused(asked, 20, 0);
     for (size_t i = 0; i < 4; i++) {
-        asked = request();
+        asked = request_w();
         asked.bound = wrong[i];
         asked.bounded = true;
         refused(asked, 21, 1);
         asked.bandwidth = wrong[i];
         refused(asked, 21, 0);
     }
-    asked = request();
+    asked = request_w();
     asked.exclude.at = too_long;
     asked.exclude.count = sizeof too_long;
     refused(asked, 22, 1);
@@ -284,10 +258,7 @@ static void lists(void)
 
 int main(int count, char **arguments)
 {
-    FILE *file = fopen(count == 2 ? arguments[1] : "examples/w.dsp", "rb");
-    EXPECT(file != NULL);
-    EXPECT(fread(w_bytes, 1, sizeof w_bytes, file) == sizeof w_bytes);
-    EXPECT(is(yq_profile_open(&w, w_bytes, sizeof w_bytes), 0, 0));
+    open_w(count, arguments);
     tree();
     paths();
     rounds();

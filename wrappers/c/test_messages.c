@@ -1,61 +1,17 @@
 /* The wrapper on messages: document 01's request as a PCReq, its paths as
- * PCReps, and each refusal of a message. The first argument is the file of
- * profile W. */
-#include <stdio.h>
-#include <stdlib.h>
+ * PCReps, and each refusal of a message. */
+#include "testing.h"
 
-#include "yq_messages.h"
-
-#define EXPECT(fact) \
-    ((fact) ? (void)0 : (printf("%s:%d: %s\n", __FILE__, __LINE__, #fact), exit(1)))
-
-#define NODE(last) (0xC0000200u + (last))
-
-enum { S = 1, P = 11, Q = 12, T = 21, U = 22, Z = 99 };
-
-#define RP 2, 0x12, 0, 12, 0, 0, 0, 0, 0, 0, 0, 7
-#define ENDS 4, 0x12, 0, 12, 192, 0, 2, S, 192, 0, 2, Z
-#define HUNDRED 5, 0x12, 0, 8, 0x42, 0xC8, 0, 0
-#define IRO 10, 0x12, 0, 12, 32, 4, 0xFB, 0xF1, 32, 4, 0xFB, 0xF2
-#define XRO 17, 0x12, 0, 16, 0, 0, 0, 0, 1, 8, 192, 0, 2, Q, 32, 1
 #define NO_PATH 3, 0x10, 0, 8, 1, 0x80, 0, 0
-#define METRIC(kind, flags, a, b) 6, 0x10, 0, 12, 0, 0, flags, kind, a, b, 0, 0
 #define HOP(last) 1, 8, 192, 0, 2, last, 32, 0
-
-/* A message of this type with these objects. */
-#define MESSAGE(type, ...) \
-    framed(type, (const uint8_t[]){__VA_ARGS__}, \
-           sizeof (const uint8_t[]){__VA_ARGS__})
-#define PCREQ(...) MESSAGE(3, __VA_ARGS__)
-#define PCREP(...) MESSAGE(4, __VA_ARGS__)
 
 static const uint8_t asked_bytes[] = {0x20, 3, 0, 48, RP, ENDS, HUNDRED, IRO};
 static const yq_bytes asked = {asked_bytes, sizeof asked_bytes};
 static const uint8_t every[][2] = {{P, U}, {Q, T}, {Q, U}};
 
-static uint8_t w_bytes[232];
-static yq_profile w;
-static uint8_t framing[2000];
 static yq_pcreq request;
 static yq_pcrep reply, read;
 static yq_message out;
-
-static bool is(yq_answer answer, uint32_t number, uint32_t place)
-{
-    return answer.number == number && answer.place == place;
-}
-
-/* The next call overwrites it. */
-static yq_bytes framed(uint8_t type, const uint8_t *objects, size_t count)
-{
-    yq_bytes message = {framing, 4 + count};
-    framing[0] = 0x20;
-    framing[1] = type;
-    framing[2] = (uint8_t)(message.count >> 8);
-    framing[3] = (uint8_t)message.count;
-    memcpy(framing + 4, objects, count);
-    return message;
-}
 
 static bool same(yq_bytes bytes, const uint8_t *expected, size_t count)
 {
@@ -179,7 +135,12 @@ static void replies(void)
                                 HOP(every[i][1]), HOP(Z),
                                 METRIC(2, 2, 0x41, 0x60))));
     }
+    paths.path.count = 1000; /* more than a path has */
+    yq_pcrep_path(&reply, &request, &paths.path);
+    EXPECT(reply.found && reply.count == 0);
+    request.rp_flags = 0x3F;
     yq_pcrep_no_path(&reply, &request);
+    EXPECT(!reply.found && reply.rp_flags == 0);
     read_back();
     reply.nature = 1;
     reply.c_flag = true;
@@ -272,10 +233,7 @@ static void replies_refused(void)
 
 int main(int count, char **arguments)
 {
-    FILE *file = fopen(count == 2 ? arguments[1] : "examples/w.dsp", "rb");
-    EXPECT(file != NULL);
-    EXPECT(fread(w_bytes, 1, sizeof w_bytes, file) == sizeof w_bytes);
-    EXPECT(is(yq_profile_open(&w, w_bytes, sizeof w_bytes), 0, 0));
+    open_w(count, arguments);
     requests_read();
     tree_and_paths();
     replies();

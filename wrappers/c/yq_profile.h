@@ -1,6 +1,7 @@
 /*
  * Yachayniq for C: a profile, a request, and the six calls on them, with every
- * buffer as large as it can need to be. yq_messages.h has the calls on messages.
+ * buffer as large as it can need to be. yq_series.h has many calls for paths in
+ * one, yq_messages.h the calls on messages.
  *
  *     yq_profile profile;
  *     yq_answer answer = yq_profile_open(&profile, bytes, count);
@@ -9,10 +10,16 @@
  *     yq_paths paths = yq_profile_paths(&profile, &request);
  *     while (yq_paths_next(&paths))
  *         ... paths.path ...
+ *     char line[YQ_LINE];
+ *     if (paths.answer.number >= 10)
+ *         puts(yq_explain(paths.answer, line));
  *
  * A call answers with its number, 0 when done, and the place of a refusal
  * (yachayniq.h lists them). What it is to fill is filled on 0 alone.
  * An address is a number: 192.0.2.1 is 0xC0000201.
+ *
+ * A function takes a few hundred bytes of stack beside those of the library's
+ * call, which takes up to 16 KiB; where it takes more, its comment says so.
  *
  * An exclusion with X set is only desired: if there is one, and no path keeps
  * the bound with all exclusions, only those with X clear count, and the tree
@@ -21,14 +28,19 @@
 #ifndef YQ_PROFILE_H
 #define YQ_PROFILE_H
 
+#include <stdio.h>
 #include <string.h>
 
 #include "yachayniq.h"
+#include "yq_numbers.h"
 
 enum { YQ_DOMAINS = 16, YQ_ADDRESSES = 17, YQ_ENTRIES = 241, YQ_LIST = 1024 };
 
+/* How a call went; it says which call too, since that decides what the number
+ * means. */
 typedef struct {
     uint32_t number, place;
+    yq_call call;
 } yq_answer;
 
 typedef struct {
@@ -98,10 +110,26 @@ typedef struct {
     yq_path path;
 } yq_paths;
 
-static inline yq_answer yq_answered(uint32_t number, const uint32_t *numbers)
+static inline yq_answer yq_answered(yq_call call, uint32_t number,
+                                    const uint32_t *numbers)
 {
-    yq_answer answer = {number, numbers[0]};
+    yq_answer answer = {number, numbers[0], call};
     return answer;
+}
+
+enum { YQ_LINE = 320 }; /* enough for any line that yq_explain writes */
+
+/* Writes in one line what an answer means, and returns the line. Takes 2 KB of
+ * stack, snprintf's. */
+static inline const char *yq_explain(yq_answer answer, char line[YQ_LINE])
+{
+    const char *meaning = yq_meaning(answer.call, answer.number, answer.place);
+    if (answer.number < 10)
+        snprintf(line, YQ_LINE, "%s", meaning);
+    else
+        snprintf(line, YQ_LINE, "refused: number %u, place %u: %s",
+                 (unsigned)answer.number, (unsigned)answer.place, meaning);
+    return line;
 }
 
 /* The library takes no NULL. */
@@ -136,7 +164,7 @@ static inline yq_answer yq_profile_open(yq_profile *profile,
     uint32_t number = yq_check_profile(yq_start(taken), count, numbers);
     if (number == 0)
         profile->bytes = taken;
-    return yq_answered(number, numbers);
+    return yq_answered(YQ_CALL_CHECK_PROFILE, number, numbers);
 }
 
 /* The sequence of domains that an include list means. */
@@ -160,7 +188,7 @@ static inline yq_answer yq_profile_read_include(const yq_profile *profile,
             sequence->stops[i].pin = pins[i];
         }
     }
-    return yq_answered(number, numbers);
+    return yq_answered(YQ_CALL_READ_INCLUDE, number, numbers);
 }
 
 /* The list that means this sequence, read with its first domain as ingress. */
@@ -183,7 +211,7 @@ static inline yq_answer yq_profile_write_list(const yq_profile *profile,
         pinned, count, pins, count, list->bytes, YQ_LIST, numbers);
     if (number == 0)
         list->count = numbers[1];
-    return yq_answered(number, numbers);
+    return yq_answered(YQ_CALL_WRITE_LIST, number, numbers);
 }
 
 /* The buffers that a tree is stored in. */
@@ -210,7 +238,8 @@ static inline void yq_grown(yq_entries *tree, const yq_tree_room *room,
     }
 }
 
-/* The least cost from each entry node to the destination. */
+/* The least cost from each entry node to the destination. Takes 3.4 KB of stack
+ * beside the call's. */
 static inline yq_answer yq_profile_tree(const yq_profile *profile,
                                         const yq_request *request,
                                         yq_entries *tree)
@@ -221,12 +250,32 @@ static inline yq_answer yq_profile_tree(const yq_profile *profile,
                               numbers);
     if (number == 0)
         yq_grown(tree, &room, numbers);
-    return yq_answered(number, numbers);
+    return yq_answered(YQ_CALL_TREE, number, numbers);
 }
 
-static inline void yq_found(yq_path *path, size_t count, const uint32_t *numbers)
+/* Fills a path's buffer before a call with what isn't the destination. The
+ * library leaves what lies past a path as it was, and a path ends with the
+ * destination, so it ends where that stands last in the buffer. */
+static inline void yq_lend(uint32_t addresses[YQ_ADDRESSES], uint32_t destination)
+{
+    for (size_t i = 0; i < YQ_ADDRESSES; i++)
+        addresses[i] = ~destination;
+}
+
+static inline size_t yq_length(const uint32_t addresses[YQ_ADDRESSES],
+                               uint32_t destination)
+{
+    size_t count = YQ_ADDRESSES;
+    while (count > 0 && addresses[count - 1] != destination)
+        count--;
+    return count;
+}
+
+static inline void yq_found(yq_path *path, const uint32_t *addresses,
+                            size_t count, const uint32_t *numbers)
 {
     path->count = count;
+    memcpy(path->addresses, addresses, count * sizeof *addresses);
     path->total = numbers[1];
     memcpy(&path->total_float, &numbers[2], sizeof path->total_float);
     path->round = numbers[3];
@@ -237,28 +286,21 @@ static inline yq_answer yq_profile_first(const yq_profile *profile,
                                          const yq_request *request,
                                          yq_path *path)
 {
-    uint32_t numbers[4];
+    uint32_t addresses[YQ_ADDRESSES], numbers[4];
+    yq_lend(addresses, request->destination);
     uint32_t number = yq_first(YQ_ASKED(profile, request),
-                               path->addresses, YQ_ADDRESSES, numbers);
-    if (number == 0) {
-        /* The source, an entry node for each domain but the first, the
-         * destination. */
-        yq_sequence sequence;
-        sequence.count = 0;
-        yq_profile_read_include(profile, request->ingress, request->include,
-                                &sequence);
-        yq_found(path, sequence.count + 1, numbers);
-    }
-    return yq_answered(number, numbers);
+                               addresses, YQ_ADDRESSES, numbers);
+    if (number == 0)
+        yq_found(path, addresses, yq_length(addresses, request->destination),
+                 numbers);
+    return yq_answered(YQ_CALL_FIRST, number, numbers);
 }
 
-/* A copy of a path's addresses. No path has none of them: 33, like more than
- * there is room for. */
-static inline size_t yq_given(const yq_path *after, uint32_t given[YQ_ADDRESSES])
+/* How many addresses a given path has. No path has none of them: 33, like more
+ * than there is room for. */
+static inline size_t yq_given(const yq_path *after)
 {
-    size_t count = after->count <= YQ_ADDRESSES ? after->count : 0;
-    memcpy(given, after->addresses, count * sizeof *given);
-    return count;
+    return after->count <= YQ_ADDRESSES ? after->count : 0;
 }
 
 /* The next shortest path after a path, or after any list of addresses of a
@@ -267,20 +309,22 @@ static inline yq_answer yq_profile_next(const yq_profile *profile,
                                         const yq_request *request,
                                         const yq_path *after, yq_path *path)
 {
-    uint32_t given[YQ_ADDRESSES], numbers[4];
-    size_t count = yq_given(after, given);
-    uint32_t number = yq_next(YQ_ASKED(profile, request), given, count,
-                              path->addresses, YQ_ADDRESSES, numbers);
+    uint32_t addresses[YQ_ADDRESSES], numbers[4];
+    size_t count = yq_given(after);
+    uint32_t number = yq_next(YQ_ASKED(profile, request),
+                              after->addresses, count,
+                              addresses, YQ_ADDRESSES, numbers);
     if (number == 0)
-        yq_found(path, count, numbers);
-    return yq_answered(number, numbers);
+        yq_found(path, addresses, count, numbers);
+    return yq_answered(YQ_CALL_NEXT, number, numbers);
 }
 
 /* Every shortest path of a request, from the first on. */
 static inline yq_paths yq_profile_paths(const yq_profile *profile,
                                         const yq_request *request)
 {
-    yq_paths paths = {profile, request, false, {0, 0}, {0, {0}, 0, 0, 0}};
+    yq_paths paths = {profile, request, false, {0, 0, YQ_CALL_FIRST},
+                      {0, {0}, 0, 0, 0}};
     return paths;
 }
 

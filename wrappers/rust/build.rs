@@ -4,12 +4,13 @@
 use std::env;
 use std::path::{Path, PathBuf};
 
-const BUILT: &str = "../../target/staticlib/libcalculator.a";
+const BUILT: &str = "target/staticlib/libcalculator.a";
 
 fn main() {
     println!("cargo::rerun-if-env-changed=YQ_LIB");
     let package = env::var_os("CARGO_MANIFEST_DIR").expect("cargo sets it");
-    let built = Path::new(&package).join(BUILT);
+    let top = Path::new(&package).ancestors().nth(2);
+    let built = top.unwrap_or(Path::new("/")).join(BUILT);
     let named = env::var_os("YQ_LIB").filter(|path| !path.is_empty());
     let archive = named.map_or(built, PathBuf::from);
     println!("cargo::rerun-if-changed={}", archive.display());
@@ -22,7 +23,8 @@ fn main() {
         }
         _ => println!(
             "cargo::error=the proved library is missing: there is no {}. \
-             Run rt staticlib calculator, or set YQ_LIB to the whole path of a libNAME.a",
+             Run rt staticlib calculator at the top of the repository, which proves and \
+             builds it, or set YQ_LIB to the whole path of a libNAME.a",
             archive.display()
         ),
     }

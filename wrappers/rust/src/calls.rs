@@ -73,6 +73,12 @@ declare!(yq_next(
     path: *mut u32, path_count: usize,
     numbers: *mut u32
 ));
+declare!(yq_series(
+    kinds: *const u8, kinds_count: usize,
+    sizes: *const u32, sizes_count: usize,
+    buffers: *mut u32, buffers_count: usize,
+    numbers: *mut u32, numbers_count: usize
+));
 
 /// Makes such a call with a profile and a request.
 macro_rules! call {
@@ -215,5 +221,28 @@ pub fn next(
         path.as_mut_ptr(),
         path.len(),
         numbers.as_mut_ptr()
+    ))
+}
+
+/// `numbers`, for each call: answer, place, total, float bits, round.
+pub fn series(
+    profile: &[u8],
+    request: &Request,
+    kinds: &[u8],
+    sizes: &[u32],
+    buffers: &mut [u32],
+    numbers: &mut [u32],
+) -> u32 {
+    call!(yq_series(
+        profile,
+        request,
+        kinds.as_ptr(),
+        kinds.len(),
+        sizes.as_ptr(),
+        sizes.len(),
+        buffers.as_mut_ptr(),
+        buffers.len(),
+        numbers.as_mut_ptr(),
+        numbers.len()
     ))
 }

@@ -1,65 +1,23 @@
 //! The wrapper on messages: document 01's request as a PCReq, its paths as
 //! PCReps, and each refusal of a message.
 
+mod common;
+
+use common::*;
 use std::net::Ipv4Addr;
-use yachayniq::{
-    read_pcrep, read_pcreq, write_pcrep, Answer, Metric, Pcrep, Pcreq, Profile, Refusal, Request,
-};
+use yachayniq::{read_pcrep, read_pcreq, write_pcrep, Answer, Call, Metric, Pcrep, Pcreq, Request};
 
-const W: &[u8] = include_bytes!("../../../examples/w.dsp");
-const S: Ipv4Addr = Ipv4Addr::new(192, 0, 2, 1);
-const P: Ipv4Addr = Ipv4Addr::new(192, 0, 2, 11);
-const Q: Ipv4Addr = Ipv4Addr::new(192, 0, 2, 12);
-const T: Ipv4Addr = Ipv4Addr::new(192, 0, 2, 21);
-const U: Ipv4Addr = Ipv4Addr::new(192, 0, 2, 22);
-const Z: Ipv4Addr = Ipv4Addr::new(192, 0, 2, 99);
-const EVERY: [[Ipv4Addr; 4]; 3] = [[S, P, U, Z], [S, Q, T, Z], [S, Q, U, Z]];
-
-const RP: &str = "0212000C 00000000 00000007";
-const ENDS: &str = "0412000C C0000201 C0000263";
-const XRO: &str = "11120010 00000000 0108C000 020C2001";
 const NO_PATH: &str = "03100008 01800000";
-const ASKED: &str = "20030030 0212000C 00000000 00000007 0412000C C0000201 C0000263 \
-    05120008 42C80000 0A12000C 2004FBF1 2004FBF2";
 const TOTAL: Metric = Metric {
     kind: 2,
     flags: 2,
     bits: 0x41600000,
 };
 
-fn w() -> Profile {
-    Profile::new(W).expect("document 01's profile")
-}
-
-fn bytes(hex: &str) -> Vec<u8> {
-    let digits: Vec<u32> = hex.chars().filter_map(|digit| digit.to_digit(16)).collect();
-    let byte = |pair: &[u32]| (16 * pair[0] + pair[1]) as u8;
-    digits.chunks(2).map(byte).collect()
-}
-
-/// A message of this type with these objects.
-fn message(kind: u8, objects: &[&str]) -> Vec<u8> {
-    let body = bytes(&objects.concat());
-    let [high, low] = (4 + body.len() as u16).to_be_bytes();
-    [&[0x20, kind, high, low], &body[..]].concat()
-}
-
-fn pcreq(objects: &[&str]) -> Vec<u8> {
-    message(3, objects)
-}
-
-fn pcrep(objects: &[&str]) -> Vec<u8> {
-    message(4, objects)
-}
-
 /// Document 01's request with more objects after it.
 fn asked_with(objects: &[&str]) -> Vec<u8> {
     let model = &ASKED[8..];
     pcreq(&[&[model], objects].concat())
-}
-
-fn refusal<T>(number: u32, place: u32) -> Result<T, Refusal> {
-    Err(Refusal { number, place })
 }
 
 #[test]
@@ -125,7 +83,7 @@ fn tree_and_paths() {
     };
     assert_eq!(after(&[S, P, T, Z]), Ok(Some(EVERY[0].to_vec())));
     assert_eq!(after(&EVERY[2]), Ok(None));
-    assert_eq!(after(&[S, Z]), refusal(33, 0));
+    assert_eq!(after(&[S, Z]), refusal(Call::PcreqNext, 33, 0));
     // From Q in domain 1 by AS 64498.
     let inside = pcreq(&[RP, "0412000C C000020C C0000263", "0A120008 2004FBF2"]);
     let paths = w.pcreq_paths(1, &inside).unwrap();
@@ -150,11 +108,13 @@ const fn no_path(nature: u8, c: bool) -> Answer {
 #[test]
 fn replies() {
     let (w, asked) = (w(), bytes(ASKED));
+    let request = read_pcreq(&asked).unwrap();
     let mut paths = w.pcreq_paths(0, &asked).unwrap();
     for inner in [["0B", "16"], ["0C", "15"], ["0C", "16"]] {
         let path = paths.next().unwrap();
-        assert_eq!(Metric::new(2, 2, path.total_float), TOTAL);
+        let made = Pcrep::of(&request, &path);
         let reply = reply(Answer::Path(path.addresses), &[TOTAL]);
+        assert_eq!(made, reply);
         let written = write_pcrep(&reply).unwrap();
         let expected = format!(
             "20040040 0212000C 00000000 00000007 07100024 0108C000 02012000 \
@@ -166,6 +126,12 @@ fn replies() {
         assert_eq!(read_pcrep(&written), Ok(reply));
     }
     assert_eq!(paths.next(), None);
+    let rp_flags = 0x3F;
+    let flagged = Pcreq {
+        rp_flags,
+        ..request
+    };
+    assert_eq!(Pcrep::none(&flagged), reply(no_path(0, false), &[]));
 
     let extremes = [Metric::new(255, 255, 1e-45), Metric::new(0, 0, f32::MAX)];
     for reply in [
@@ -192,15 +158,17 @@ fn replies() {
 fn requests_refused() {
     let w = w();
     let carried = |message: &[u8], number, place| {
-        assert_eq!(w.pcreq_tree(0, message), refusal(number, place));
-        assert_eq!(w.pcreq_first(0, message), refusal(number, place));
+        let tree = w.pcreq_tree(0, message);
+        assert_eq!(tree, refusal(Call::PcreqTree, number, place));
+        let first = refusal(Call::PcreqFirst, number, place);
+        assert_eq!(w.pcreq_first(0, message), first);
+        assert_eq!(w.pcreq_paths(0, message).map(|_| None), first);
         let next = w.pcreq_next(0, message, &EVERY[0]);
-        assert_eq!(next, refusal(number, place));
-        let paths = w.pcreq_paths(0, message).map(|_| ());
-        assert_eq!(paths, refusal(number, place));
+        assert_eq!(next, refusal(Call::PcreqNext, number, place));
     };
     let refused = |message: &[u8], number, place| {
-        assert_eq!(read_pcreq(message), refusal(number, place));
+        let read = read_pcreq(message);
+        assert_eq!(read, refusal(Call::ReadPcreq, number, place));
         carried(message, number, place);
     };
     refused(&[], 36, 0);
@@ -217,17 +185,19 @@ fn requests_refused() {
     refused(&pcreq(&[RP, ENDS, "0A12000C 2004FBF1 2104FBF2"]), 24, 4);
     carried(&pcreq(&[RP, ENDS, "0A12000C 2004FBF1 2004FBF0"]), 30, 4);
     let asked = bytes(ASKED);
-    assert_eq!(w.pcreq_tree(3, &asked), refusal(20, 0));
-    assert_eq!(w.pcreq_first(3, &asked), refusal(20, 0));
-    assert_eq!(w.pcreq_next(3, &asked, &EVERY[0]), refusal(20, 0));
+    assert_eq!(w.pcreq_tree(3, &asked), refusal(Call::PcreqTree, 20, 0));
+    assert_eq!(w.pcreq_first(3, &asked), refusal(Call::PcreqFirst, 20, 0));
+    let next = w.pcreq_next(3, &asked, &EVERY[0]);
+    assert_eq!(next, refusal(Call::PcreqNext, 20, 0));
 }
 
 #[test]
 fn replies_refused() {
     let refused = |objects: &[&str], number, place| {
-        assert_eq!(read_pcrep(&pcrep(objects)), refusal(number, place));
+        let read = read_pcrep(&pcrep(objects));
+        assert_eq!(read, refusal(Call::ReadPcrep, number, place));
     };
-    assert_eq!(read_pcrep(&bytes(ASKED)), refusal(36, 0));
+    assert_eq!(read_pcrep(&bytes(ASKED)), refusal(Call::ReadPcrep, 36, 0));
     refused(&[RP, "03100004"], 37, 16);
     refused(&[ENDS, RP, NO_PATH], 38, 4);
     refused(&[NO_PATH], 39, 0);
@@ -238,7 +208,7 @@ fn replies_refused() {
 
     let unwritten = |answer, metrics: &[Metric], number, place| {
         let written = write_pcrep(&reply(answer, metrics));
-        assert_eq!(written, refusal(number, place));
+        assert_eq!(written, refusal(Call::WritePcrep, number, place));
     };
     unwritten(Answer::Path(vec![S; 8190]), &[], 37, 0);
     unwritten(no_path(0, false), &[TOTAL; 5460], 37, 0);

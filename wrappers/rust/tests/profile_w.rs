@@ -1,46 +1,17 @@
 //! The wrapper on document 01's worked examples, each call and each kind of
 //! answer, on desired exclusions and on wide costs.
 
-use std::net::Ipv4Addr;
-use yachayniq::{check_profile, Entry, Path, Profile, Refusal, Request, Stop, Tree};
+mod common;
 
-const W: &[u8] = include_bytes!("../../../examples/w.dsp");
-const ONWARD: &[u8] = &[32, 4, 0xFB, 0xF1, 32, 4, 0xFB, 0xF2];
+use common::*;
+use std::net::Ipv4Addr;
+use yachayniq::{check_profile, Call, Entry, Path, Profile, Request, Stop, Tree};
+
 const THROUGH_U: &[u8] = &[
     32, 4, 0xFB, 0xF1, 1, 8, 192, 0, 2, 22, 32, 0, 32, 4, 0xFB, 0xF2,
 ];
 const BACK: &[u8] = &[5, 8, 0, 0, 0, 0, 0xFB, 0xF1, 5, 8, 0, 0, 0, 0, 0xFB, 0xF0];
 const DESIRED: u8 = 0x80; // X set
-const S: Ipv4Addr = Ipv4Addr::new(192, 0, 2, 1);
-const P: Ipv4Addr = Ipv4Addr::new(192, 0, 2, 11);
-const Q: Ipv4Addr = Ipv4Addr::new(192, 0, 2, 12);
-const T: Ipv4Addr = Ipv4Addr::new(192, 0, 2, 21);
-const U: Ipv4Addr = Ipv4Addr::new(192, 0, 2, 22);
-const Z: Ipv4Addr = Ipv4Addr::new(192, 0, 2, 99);
-const EVERY: [[Ipv4Addr; 4]; 3] = [[S, P, U, Z], [S, Q, T, Z], [S, Q, U, Z]];
-
-/// Document 01's request: S to Z by both other domains, bandwidth 100, no bound.
-fn request() -> Request<'static> {
-    Request {
-        include: ONWARD,
-        bandwidth: 100.0,
-        ..Request::new(S, Z)
-    }
-}
-
-fn w() -> Profile {
-    Profile::new(W).expect("document 01's profile")
-}
-
-/// The exclusion of a node, with this X.
-fn without(x: u8, node: Ipv4Addr) -> [u8; 8] {
-    let [a, b, c, d] = node.octets();
-    [x | 1, 8, a, b, c, d, 32, 1]
-}
-
-fn refusal<T>(number: u32, place: u32) -> Result<T, Refusal> {
-    Err(Refusal { number, place })
-}
 
 /// The tree of a request by both other domains: what S, P, Q, T and U cost, 0
 /// where Z can't be reached.
@@ -146,7 +117,7 @@ fn wide_costs() {
     assert_eq!(wide.first(&bounded(path.total_float)), Ok(None));
     assert_eq!(wide.first(&bounded(16_777_218.0)), Ok(Some(path)));
     bytes[224] = 1;
-    assert_eq!(check_profile(&bytes), refusal(17, 10));
+    assert_eq!(check_profile(&bytes), refusal(Call::CheckProfile, 17, 10));
 }
 
 #[test]
@@ -195,7 +166,7 @@ fn next() {
     assert_eq!(after(&[S, P, T, Z]), Ok(Some(vec![S, P, U, Z])));
     assert_eq!(after(&[S, P, U, Z]), Ok(Some(vec![S, Q, T, Z])));
     assert_eq!(after(&[S, Q, U, Z]), Ok(None));
-    assert_eq!(after(&[S, P, Z]), refusal(33, 0));
+    assert_eq!(after(&[S, P, Z]), refusal(Call::Next, 33, 0));
 }
 
 #[test]
@@ -203,9 +174,12 @@ fn refusals() {
     let request = request();
     let long: &[u8] = &[0; 1025];
     let refused = |request: Request, number, place| {
-        assert_eq!(w().tree(&request), refusal(number, place));
-        assert_eq!(w().first(&request), refusal(number, place));
-        assert_eq!(w().paths(&request).map(|_| ()), refusal(number, place));
+        assert_eq!(w().tree(&request), refusal(Call::Tree, number, place));
+        let first = refusal(Call::First, number, place);
+        assert_eq!(w().first(&request), first);
+        assert_eq!(w().paths(&request).map(|_| None), first);
+        let next = w().next(&request, &EVERY[0]);
+        assert_eq!(next, refusal(Call::Next, number, place));
     };
     let include = BACK;
     refused(Request { include, ..request }, 30, 8);
@@ -251,11 +225,11 @@ fn refusals() {
 #[test]
 fn profiles() {
     assert_eq!(check_profile(W), Ok(()));
-    assert_eq!(check_profile(&[]), refusal(10, 0));
+    assert_eq!(check_profile(&[]), refusal(Call::CheckProfile, 10, 0));
     let mut wrong = W.to_vec();
     wrong[78] = 3; // record 3 is now from 192.0.3.1
-    let refused = Profile::new(wrong).unwrap_err();
-    assert_eq!(refused.to_string(), "refused: number 16, place 3");
+    let refused = Profile::new(wrong).map(|_| ());
+    assert_eq!(refused, refusal(Call::CheckProfile, 16, 3));
 }
 
 #[test]
@@ -285,14 +259,20 @@ fn lists() {
     let pinned = vec![stop(0), Stop { domain: 2, pin }, stop(1)];
     let list = areas.write_list(&pinned).unwrap();
     assert_eq!(areas.read_include(0, &list), Ok(pinned));
-    assert_eq!(areas.read_include(0, &written[16..24]), refusal(29, 0));
-    assert_eq!(areas.read_include(3, &[]), refusal(20, 0));
+    assert_eq!(
+        areas.read_include(0, &written[16..24]),
+        refusal(Call::ReadInclude, 29, 0)
+    );
+    assert_eq!(
+        areas.read_include(3, &[]),
+        refusal(Call::ReadInclude, 20, 0)
+    );
     for wrong in [
         &[][..],
         &[stop(0), stop(0)],
         &[stop(3)],
         &[Stop { domain: 0, pin }],
     ] {
-        assert_eq!(areas.write_list(wrong), refusal(35, 0));
+        assert_eq!(areas.write_list(wrong), refusal(Call::WriteList, 35, 0));
     }
 }

@@ -1,6 +1,7 @@
 //! The calls on messages.
 
-use crate::messages::{Answer, Parts, Pcrep};
+use crate::metrics::Parts;
+use crate::{Answer, Pcrep};
 
 extern "C" {
     fn yq_read_pcreq(
