@@ -2,16 +2,18 @@
  * Yachayniq, a path calculator for test profiles: the C interface of the
  * proved static library target/staticlib/libcalculator.a (x86-64).
  *
- * Every call returns a number that says how it went: 0 is done, from 10 up the
- * input is refused. The other numbers of an answer are stored in `numbers`, the
- * place first. On a refusal every stored number but the place is 0.
+ * Every call returns a number that says how it went: 0 is done, 1 and 2 mean
+ * no path and no further one, from 10 up the input is refused. The other
+ * numbers of an answer are stored in `numbers`, the place first. docs/FORMAT.md
+ * has the bytes of profiles and lists, the rules, and every number.
  *
  * An input list is a pointer and then its count of elements, and so is a
  * buffer that is lent for a result. A pointer is never NULL, also where the
  * count is 0, and what a call writes overlaps none of its inputs and nothing
- * else it writes. A lent buffer keeps what lies past the result, and on a
- * refusal all it held. A call keeps nothing for the next one, so calls may run
- * in several threads at a time.
+ * else it writes. A lent buffer keeps what lies past the result. On any answer
+ * but 0 every lent buffer keeps all that it held, and every stored number is 0
+ * but the place of a refusal. A call keeps nothing for the next one, so calls
+ * may run in several threads at a time.
  */
 #ifndef YACHAYNIQ_H
 #define YACHAYNIQ_H
@@ -92,7 +94,7 @@ uint32_t yq_check_profile(const uint8_t *profile, size_t profile_count,
  *    32  an entry constraint that still waits
  *    34  a buffer has fewer elements than the sequence has domains
  *  else
- *     0  the sequence is in the buffers
+ *     0  the sequence is in the buffers; a refusal leaves all three untouched
  *
  * numbers[0]  place: from 10 to 19 as yq_check_profile stores it; from 23 to 32
  *             the offset in the list of the subobject that is refused, of an AS
@@ -128,7 +130,7 @@ uint32_t yq_read_include(const uint8_t *profile, size_t profile_count,
  *        count; a domain twice; a `pinned` over 1; an entry constraint on the
  *        first domain
  *    34  out has fewer bytes than the list
- *     0  the list is in out
+ *     0  the list is in out; a refusal leaves out untouched
  *
  * numbers[0]  place: from 10 to 19 as yq_check_profile stores it; else 0
  * numbers[1]  on 0 how many bytes the list has; else 0
@@ -188,7 +190,7 @@ uint32_t yq_write_list(const uint8_t *profile, size_t profile_count,
  *        (else 26)
  *    28 to 32  meaning of the include list, as yq_read_include finds it
  *    34  a buffer has fewer elements than the tree has entries
- *     0  the tree is in the buffers
+ *     0  the tree is in the buffers; a refusal leaves all four untouched
  *
  * numbers[0]  place: from 10 to 19 as yq_check_profile stores it; on 21 0 for
  *             the bandwidth and 1 for the bound; on 22 0 for the include list
@@ -227,7 +229,9 @@ uint32_t yq_tree(const uint8_t *profile, size_t profile_count,
  *     1  no path keeps the bound, in either round
  *     0  the path is at the start of the buffer; the rest of it is untouched
  *
- * numbers[0]  place, as yq_tree stores it
+ * A refusal and an answer 1 leave the whole buffer untouched.
+ *
+ * numbers[0]  place, as yq_tree stores it; on 1 0
  * numbers[1]  on 0 the path's total cost as a whole number, at most
  *             268,435,440; else 0
  * numbers[2]  on 0 the bits of the 32-bit float nearest to the total, of two as
@@ -261,7 +265,9 @@ uint32_t yq_first(const uint8_t *profile, size_t profile_count,
  *     2  no shortest path is greater than the list
  *     0  the path is at the start of the buffer; the rest of it is untouched
  *
- * numbers  as yq_first stores them
+ * A refusal and an answer 2 leave the whole buffer untouched.
+ *
+ * numbers  as yq_first stores them; on 2 all four are 0
  */
 uint32_t yq_next(const uint8_t *profile, size_t profile_count,
                  uint16_t ingress, uint32_t source, uint32_t destination,
@@ -289,12 +295,13 @@ uint32_t yq_next(const uint8_t *profile, size_t profile_count,
  *
  *   100  a kind over 1; counts of kinds and sizes that differ; sizes that do
  *        not add up to the count of buffers; under five numbers for each call.
- *        Told before the request is looked at, and nothing is written
- *     0  the calls are made
+ *        Told before the request is looked at, and nothing is written, not
+ *        even in numbers
+ *     0  the calls are made, whatever they answer
  *
- * A call's answer is 10 to 32 where the request is refused, then every call's
- * is the same; else the first of these
+ * A call's answer is the first of these:
  *
+ *    10 to 32  what yq_tree finds wrong with the request, in each call alike
  *    33  next: no path was handed out yet
  *    34  its buffer has less room than a path needs
  *     1  first: there is no path
@@ -303,7 +310,7 @@ uint32_t yq_next(const uint8_t *profile, size_t profile_count,
  *        handed out. It stands at the start of the call's buffer
  *
  * On any answer but 0 the call's buffer is untouched, its total, float bits and
- * round are 0, and the path last handed out stays that.
+ * round are 0, on 1 and 2 its place too, and the path last handed out stays so.
  */
 uint32_t yq_series(const uint8_t *profile, size_t profile_count,
                    uint16_t ingress, uint32_t source, uint32_t destination,
@@ -354,7 +361,8 @@ uint32_t yq_series(const uint8_t *profile, size_t profile_count,
  *    23 to 26  form of the exclude list, as yq_tree finds it
  *    34  a buffer has fewer elements than the message has METRICs
  *  else
- *     0  the request is in the numbers, its METRICs in the buffers
+ *     0  the request is in the numbers, its METRICs in the buffers; a refusal
+ *        leaves all three untouched
  *
  * numbers[0]   place: on 37 and 38 the offset in the message of the object that
  *              is refused; on 21 0 for the bandwidth and 1 for a METRIC; on 22
@@ -402,7 +410,7 @@ uint32_t yq_read_pcreq(const uint8_t *message, size_t message_count,
  *    21  bits of the bandwidth, then of any METRIC, from 7F800000 up
  *    22 to 32  what yq_tree finds wrong with the two lists
  *    34  a buffer has fewer elements than the tree has entries
- *     0  the tree is in the buffers
+ *     0  the tree is in the buffers; a refusal leaves all four untouched
  *
  * numbers[0]  place: from 36 to 40 as yq_read_pcreq stores it; on 21 0 for the
  *             bandwidth and 1 for a METRIC; else as yq_tree stores it
@@ -429,7 +437,9 @@ uint32_t yq_pcreq_tree(const uint8_t *profile, size_t profile_count,
  *     1  no path keeps the bound, in either round
  *     0  the path is at the start of the buffer; the rest of it is untouched
  *
- * numbers[0]  place, as yq_pcreq_tree stores it
+ * A refusal and an answer 1 leave the whole buffer untouched.
+ *
+ * numbers[0]  place, as yq_pcreq_tree stores it; on 1 0
  * numbers[1] to numbers[3]  as yq_first stores them
  */
 uint32_t yq_pcreq_first(const uint8_t *profile, size_t profile_count,
@@ -451,7 +461,9 @@ uint32_t yq_pcreq_first(const uint8_t *profile, size_t profile_count,
  *     2  no shortest path is greater than the list
  *     0  the path is at the start of the buffer; the rest of it is untouched
  *
- * numbers  as yq_pcreq_first stores them
+ * A refusal and an answer 2 leave the whole buffer untouched.
+ *
+ * numbers  as yq_pcreq_first stores them; on 2 all four are 0
  */
 uint32_t yq_pcreq_next(const uint8_t *profile, size_t profile_count,
                        uint16_t ingress,
@@ -486,7 +498,7 @@ uint32_t yq_pcreq_next(const uint8_t *profile, size_t profile_count,
  *        three lists that differ
  *    21  bits of a METRIC's value from 7F800000 up
  *    34  out has fewer bytes than the message
- *     0  the message is in out
+ *     0  the message is in out; a refusal leaves out untouched
  *
  * numbers[0]  place: on 21 1; else 0
  * numbers[1]  on 0 how many bytes the message has; else 0
@@ -532,7 +544,8 @@ uint32_t yq_write_pcrep(uint32_t request_id, uint32_t rp_flags, bool found,
  *    34  addresses has fewer elements than the path, or one of the other
  *        buffers fewer than the message has METRICs
  *  else
- *     0  the reply is in the numbers and the buffers
+ *     0  the reply is in the numbers and the buffers; a refusal leaves all four
+ *        untouched
  *
  * numbers[0]  place: on 37 and 38 the offset in the message of the object that
  *             is refused; on 21 1; from 23 to 27 the offset in the ERO's body
