@@ -2,16 +2,17 @@
 use Prim.Native.Nat.{ℕ, _+_, _≤_, _<_}
 use native.Mathlib.Omega.{arith}
 use mathlib.Core.Path.{_≡_, refl, sym, ap, ap₂, subst, _∙_}
-use mathlib.Core.Bool.{Bool}
+use mathlib.Core.Bool.{Bool, true, false}
 use mathlib.Core.List.{List, List·Memᴰ}
 use lib.ListN.{length, getD}
-use borrow.Author.Tests.{lt-ltb, le-ltb}
+use lib.Dec.{ltb}
+use borrow.Author.Tests.{ltb-true, ltb-false, lt-ltb, le-ltb}
 use Rattle.model.specs.declared.Hop.{Hop}
 use Rattle.model.specs.declared.Refusal.{Refusal}
 use Rattle.model.specs.declared.Round.{Round}
 use Rattle.model.specs.declared.Round.the-variants.{First, Second}
 use Rattle.model.specs.declared.TreeEntry.{TreeEntry}
-use Rattle.model.specs.declared.TreeAnswer.the-variants.{Built, Refused}
+use Rattle.model.specs.declared.TreeAnswer.the-variants.{Built}
 use Rattle.model.specs.Verdict.{refuseIf}
 use Rattle.model.specs.Profile.{layoutIn, costLimit}
 use Rattle.model.specs.Sequence.{Stop, Reading}
@@ -33,15 +34,12 @@ use Rattle.tree_rounds.specs.ChosenRound.{ChosenRoundIs}
 use Rattle.tree_vspt.proofs.Sequences.{stops-long}
 use Rattle.tree_fields.specs.Fields.{levelsOf}
 use Rattle.tree_fields.specs.declared.TreeResult.{TreeResult}
-use Rattle.tree_fields.specs.TreeResult.{treeOutcome, treeFor, Held, TreeResultIs}
+use Rattle.tree_fields.specs.TreeResult.{refusedBy, toldBy, treeOutcome, treeFor, Held, TreeResultIs}
 use Rattle.tree_fields.proofs.Whole.{tree-length, most, starts-at, held}
 use Rattle.model.specs.Lists.{countFrom, each}
 
-abbrev pub refusal : Refusal → TreeResult
-refusal r = record { answer = Refused r; count = 0; places = 0 }
-
 -- nothing is written, whatever the lists hold
-pub refused-outcome : (r : Refusal) (room : ℕ) (addresses codes starts : List ℕ) → TreeResultIs (nothing (refused4 r)) room addresses codes starts (refusal r)
+pub refused-outcome : (r : Refusal) (room : ℕ) (addresses codes starts : List ℕ) → TreeResultIs (nothing (refused4 r)) room addresses codes starts (refusedBy r)
 unfolding levelsOf each countFrom
 refused-outcome r room addresses codes starts =
     record {
@@ -104,11 +102,11 @@ module _
     given-query : (x : TreeResult) → TreeResultIs (treeOutcome (p .round) S room) room addresses codes starts x → TreeResultIs (treeFor s exclude q room) room addresses codes starts x
     given-query x = subst (λ (y : Query). TreeResultIs (treeOutcome (y .round) (searchFor (layoutIn s) s exclude y) room) room addresses codes starts x) (is .query-is)
 
-    pub too-small : room < getD starts (p .count) 0 → TreeResultIs (treeFor s exclude q room) room addresses codes starts (refusal (record { number = 34; place = 0 }))
+    too-small : room < getD starts (p .count) 0 → TreeResultIs (treeFor s exclude q room) room addresses codes starts (refusedBy (record { number = 34; place = 0 }))
     too-small h =
         let e : room < length (tree S) = omega (arith, counted, tree-length S) in
-        given-query (refusal (record { number = 34; place = 0 }))
-        (subst (λ (o : Outcome TreeEntry). TreeResultIs o room addresses codes starts (refusal (record { number = 34; place = 0 })))
+        given-query (refusedBy (record { number = 34; place = 0 }))
+        (subst (λ (o : Outcome TreeEntry). TreeResultIs o room addresses codes starts (refusedBy (record { number = 34; place = 0 })))
         (sym (ap (λ (b : Bool). answerTree (refuseIf b 34 0) (p .round) S) (lt-ltb room (length (tree S)) e)))
         (refused-outcome (record { number = 34; place = 0 }) room addresses codes starts))
 
@@ -119,7 +117,7 @@ module _
     tally-is : r .tally ≡ overRounds (p .round) (tally S)
     tally-is = is .tally-is ∙ ap₂ overRounds (sym (ap (λ (y : Query). y .round) (is .query-is))) (is .worked .laid .tally-is)
 
-    pub enough : getD starts (p .count) 0 ≤ room → TreeResultIs (treeFor s exclude q room) room addresses codes starts all
+    enough : getD starts (p .count) 0 ≤ room → TreeResultIs (treeFor s exclude q room) room addresses codes starts all
     enough h =
         let e : length (tree S) ≤ room = omega (arith, counted, tree-length S) in
         given-query all
@@ -134,6 +132,14 @@ module _
               (subst (λ (k : ℕ). Held (tree S) k (startOf S (length (S .sequence))) addresses codes starts) (stops-long p)
               (held S few cheap (layoutIn s) s addresses codes starts firsts lasts (is .examined) (is .worked)));
         }))
+
+    -- told by its room
+    pub told-right : TreeResultIs (treeFor s exclude q room) room addresses codes starts (toldBy (ltb room (getD starts (p .count) 0)) (getD starts (p .count) 0) (p .count) (r .tally) (p .round))
+    told-right = go (ltb room (getD starts (p .count) 0)) refl
+      where
+        go : (b : Bool) → ltb room (getD starts (p .count) 0) ≡ b → TreeResultIs (treeFor s exclude q room) room addresses codes starts (toldBy b (getD starts (p .count) 0) (p .count) (r .tally) (p .round))
+        go true e = too-small (ltb-true room (getD starts (p .count) 0) e)
+        go false e = enough (ltb-false room (getD starts (p .count) 0) e)
 
 -- ---- a request
 

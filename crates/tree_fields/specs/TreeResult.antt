@@ -1,10 +1,13 @@
 -- What the functions of this crate answer and leave in numbers, over `buildTree` of `model`.
 use Prim.Native.Nat.{ℕ, _≤_}
 use mathlib.Core.Path.{_≡_}
+use mathlib.Core.Bool.{Bool, true, false}
 use mathlib.Core.List.{List, map}
 use lib.ListN.{length, take}
+use Rattle.model.specs.declared.Refusal.{Refusal}
 use Rattle.model.specs.declared.Round.{Round}
 use Rattle.model.specs.declared.TreeAnswer.{TreeAnswer}
+use Rattle.model.specs.declared.TreeAnswer.the-variants.{Built, Refused}
 use Rattle.model.specs.declared.TreeEntry.{TreeEntry}
 use Rattle.model.specs.Lists.{over}
 use Rattle.model.specs.Answers.{numbersOfTree}
@@ -16,6 +19,14 @@ use Rattle.request.specs.declared.Query.{Query}
 use Rattle.request.specs.Query.{searchFor, inRound, roundFor}
 use Rattle.tree_fields.specs.Fields.{level, address, mark, cost, markOf, costOf, levelsOf, Places}
 use Rattle.tree_fields.specs.declared.TreeResult.{TreeResult}
+
+-- a refusal, with no entries; and a tree of so many entries, or 34 where there is too little room
+abbrev pub refusedBy : Refusal → TreeResult
+refusedBy r = record { answer = Refused r; count = 0; places = 0 }
+
+abbrev pub toldBy : Bool → ℕ → ℕ → ℕ → Round → TreeResult
+toldBy true count places tally x = refusedBy (record { number = 34; place = 0 })
+toldBy false count places tally x = record { answer = Built count tally x; count = count; places = places }
 
 -- what a search's tree is answered with by its capacity; and a query's, in the round that applies
 abbrev pub treeOutcome : Round → Search → ℕ → Outcome TreeEntry

@@ -5,6 +5,7 @@ use crate::put::put_levels;
 use crate::put::put_marks;
 use buffers::lesser;
 use model::Refusal;
+use model::Round;
 use model::TreeAnswer;
 use model::Verdict;
 use profile_records::layout::layout_in;
@@ -13,13 +14,15 @@ use request::Query;
 use request::check_request;
 use tree_rounds::settle;
 ghost use mathlib.Core.Path.{_≡_};
+ghost use Prim.Native.Nat.{_≤_};
+ghost use lib.Dec.{ltb};
 ghost use lib.ListN.{length};
 ghost use Rattle.model.specs.Profile.{layoutIn};
 ghost use Rattle.model.specs.Calls.{buildTree};
 ghost use Rattle.request.specs.CheckedRequest.{requestFor};
 ghost use Rattle.request.specs.Query.{Ready};
 ghost use Rattle.buffers.specs.Capacity.{least4};
-ghost use Rattle.tree_fields.specs.TreeResult.{treeFor, TreeResultIs, TreeIn};
+ghost use Rattle.tree_fields.specs.TreeResult.{refusedBy, toldBy, treeFor, TreeResultIs, TreeIn};
 
 pub mod put;
 
@@ -31,12 +34,34 @@ pub struct TreeResult {
 }
 
 fn refused(r: Refusal) -> TreeResult
-    ensures { λ x. ⌜ x ≡ record { answer = TreeAnswer.Refused r; count = 0; places = 0 } ⌝ }
+    ensures { λ x. ⌜ x ≡ refusedBy r ⌝ }
 {
     TreeResult {
         answer: TreeAnswer::Refused(r),
         count: 0,
         places: 0,
+    }
+}
+
+// A tree of so many entries is told, or that there is too little room for it.
+fn told(count: usize, places: usize, tally: usize, round: Round, room: usize) -> TreeResult
+    requires { ⌜ (count ≤ 241) × (tally ≤ 6000) ⌝ }
+    ensures { λ r. ⌜ r ≡ toldBy (ltb room count) count places tally round ⌝ }
+{
+    if room < count {
+        return refused(Refusal {
+            number: 34,
+            place: 0,
+        });
+    }
+    TreeResult {
+        answer: TreeAnswer::Built {
+            entries: count as u32,
+            tally: tally as u32,
+            round,
+        },
+        count,
+        places,
     }
 }
 
@@ -72,21 +97,7 @@ fn solve_query(
     let places = query.count;
     let round = query.round;
     let count = starts[places];
-    if room < count {
-        return refused(Refusal {
-            number: 34,
-            place: 0,
-        });
-    }
-    TreeResult {
-        answer: TreeAnswer::Built {
-            entries: count as u32,
-            tally: settled.tally as u32,
-            round,
-        },
-        count,
-        places,
-    }
+    told(count, places, settled.tally, round, room)
 }
 
 // The tree of a request in numbers: every check before 34, the tree, and 34.

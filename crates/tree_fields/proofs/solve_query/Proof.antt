@@ -8,9 +8,8 @@ use Rattle.profile_records.specs.Layout.{SoundLayout}
 use Rattle.profile_records.proofs.Layouts.{layout-sound}
 use Rattle.request.specs.Query.{Ready}
 use Rattle.tree_rounds.specs.ChosenRound.{ChosenRoundIs}
-use Rattle.tree_fields.specs.declared.TreeResult.{TreeResult}
 use Rattle.tree_fields.specs.TreeResult.{treeFor, TreeResultIs}
-use Rattle.tree_fields.proofs.Outcomes.{places-few, count-small, tally-small, too-small, enough}
+use Rattle.tree_fields.proofs.Outcomes.{places-few, count-small, tally-small, told-right}
 use Rattle.tree_fields.proofs.solve_query.Statement.{statement}
 use Rattle.tree_fields.proofs.solve_query.Tie as tie
 
@@ -53,48 +52,24 @@ mul-count c = omega (arith, few (c .before))
 element-copy-out-count : tie.Need-element-copy-out-count
 element-copy-out-count c = omega (arith, few (c .before))
 
-refused-requires : tie.Need-refused-requires
-refused-requires c κs = search needs
+told-requires : tie.Need-told-requires
+told-requires c κs =
+    let start = c .before .before .before .before .before .before .before .before .before .before .before in
+    let a = start .args in
+    let done = c .before .before in
+    let l = done .settle .last .1 .1 .1 .1 in (
+      count-small (a .profile .now) (a .exclude .now) (a .q) (a .room) (start .pre .0) (l .0) (l .1 .0) (l .1 .1 .0) (l .1 .1 .1 .0) (l .1 .1 .1 .1 .0) (done .settle .result) (settled done),
+      tally-small (a .profile .now) (a .exclude .now) (a .q) (a .room) (start .pre .0) (l .0) (l .1 .0) (l .1 .1 .0) (l .1 .1 .1 .0) (l .1 .1 .1 .1 .0) (done .settle .result) (settled done),
+    )
 
 returns : tie.Need-returns
 returns c =
-    let start = c .before .before .before .before .before .before .before .before .before .before .before .before .before in
-    let a = start .args in
-    let l = c .before .before .before .before .settle .last .1 .1 .1 .1 in
-    subst (λ (r : TreeResult). TreeResultIs (treeFor (a .profile .now) (a .exclude .now) (a .q) (a .room)) (a .room) (l .0) (l .1 .0) (l .1 .1 .0) r) (sym (c .refused .ensures))
-    (too-small (a .profile .now) (a .exclude .now) (a .q) (a .room) (start .pre .0) (l .0) (l .1 .0) (l .1 .1 .0) (l .1 .1 .1 .0) (l .1 .1 .1 .1 .0) (c .before .before .before .before .settle .result) (settled (c .before .before .before .before)) (c .before .if1 .taken))
-
-cast-t27 : tie.Need-cast-t27
-cast-t27 c =
     let start = c .before .before .before .before .before .before .before .before .before .before .before .before in
     let a = start .args in
-    let l = c .before .before .before .settle .last .1 .1 .1 .1 in
-    omega (arith, count-small (a .profile .now) (a .exclude .now) (a .q) (a .room) (start .pre .0) (l .0) (l .1 .0) (l .1 .1 .0) (l .1 .1 .1 .0) (l .1 .1 .1 .1 .0) (c .before .before .before .settle .result) (settled (c .before .before .before)))
-
-cast-t28 : tie.Need-cast-t28
-cast-t28 c =
-    let start = c .before .before .before .before .before .before .before .before .before .before .before .before .before in
-    let a = start .args in
-    let l = c .before .before .before .before .settle .last .1 .1 .1 .1 in
-    omega (arith, tally-small (a .profile .now) (a .exclude .now) (a .q) (a .room) (start .pre .0) (l .0) (l .1 .0) (l .1 .1 .0) (l .1 .1 .1 .0) (l .1 .1 .1 .1 .0) (c .before .before .before .before .settle .result) (settled (c .before .before .before .before)))
-
-returns-2 : tie.Need-returns-2
-returns-2 c =
-    let start = c .before .before .before .before .before .before .before .before .before .before .before .before .before in
-    let a = start .args in
-    let l = c .before .before .before .before .settle .last .1 .1 .1 .1 in
-    enough (a .profile .now) (a .exclude .now) (a .q) (a .room) (start .pre .0) (l .0) (l .1 .0) (l .1 .1 .0) (l .1 .1 .1 .0) (l .1 .1 .1 .1 .0) (c .before .before .before .before .settle .result) (settled (c .before .before .before .before)) (c .before .if1 .left)
+    let done = c .before .before .before in
+    let l = done .settle .last .1 .1 .1 .1 in
+    subst (TreeResultIs (treeFor (a .profile .now) (a .exclude .now) (a .q) (a .room)) (a .room) (l .0) (l .1 .0) (l .1 .1 .0)) (sym (c .told .ensures))
+    (told-right (a .profile .now) (a .exclude .now) (a .q) (a .room) (start .pre .0) (l .0) (l .1 .0) (l .1 .1 .0) (l .1 .1 .1 .0) (l .1 .1 .1 .1 .0) (done .settle .result) (settled done))
 
 pub solve-query-spec : {M : Type 1} → statement M
-solve-query-spec =
-    tie.close
-    (tie.spec
-    layout-in-requires
-    settle-requires
-    mul-count
-    element-copy-out-count
-    refused-requires
-    returns
-    cast-t27
-    cast-t28
-    returns-2)
+solve-query-spec = tie.close (tie.spec layout-in-requires settle-requires mul-count element-copy-out-count told-requires returns)
