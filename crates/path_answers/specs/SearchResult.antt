@@ -20,7 +20,10 @@ pub record ResultPath (S : Search) (given : List ℕ) (long : ℕ) (r : SearchRe
   pub addresses-are : path .addresses ≡ take long (r .path)
   pub cells-are : r .path ≡ over (path .addresses) (replicate 17 0)
 
--- nothing found in a round
+-- a path found in a round, or nothing
+abbrev pub foundIn : Round → ℕ → List ℕ → SearchResult
+foundIn x total path = record { round = x; found = true; total = total; path = path }
+
 abbrev pub nothingIn : Round → SearchResult
 nothingIn x = record { round = x; found = false; total = 0; path = replicate 17 0 }
 

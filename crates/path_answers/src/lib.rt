@@ -10,7 +10,7 @@ ghost use Rattle.model.specs.Request.{Search};
 ghost use Rattle.model.specs.Path.{shortestPaths};
 ghost use Rattle.model.specs.Answers.{refused4};
 ghost use Rattle.model.specs.Calls.{nothing, firstOf, greaterThan};
-ghost use Rattle.path_answers.specs.SearchResult.{nothingIn, ResultIs};
+ghost use Rattle.path_answers.specs.SearchResult.{nothingIn, foundIn, ResultIs};
 ghost use Rattle.path_answers.specs.PathReply.{noneAnswer, noneNumber, ReplyIs};
 
 pub mod lent;
@@ -34,6 +34,18 @@ pub fn nothing_in(round: Round) -> SearchResult
         found: false,
         total: 0,
         path: none,
+    }
+}
+
+// A path is found in a round: the least total, and addresses that start with its own.
+pub fn found_in(round: Round, least: u32, addresses: [u32; 17]) -> SearchResult
+    ensures { λ r. ⌜ r ≡ foundIn round least addresses ⌝ }
+{
+    SearchResult {
+        round,
+        found: true,
+        total: least,
+        path: addresses,
     }
 }
 

@@ -2,6 +2,7 @@
 // found by going down the tree.
 use model::NodeAddress;
 use path_answers::SearchResult;
+use path_answers::found_in;
 use path_answers::nothing_in;
 use path_descent::first_by;
 use path_descent::next_after;
@@ -150,10 +151,5 @@ pub fn search(s: &[u8], layout: Layout, exclude: &[u8], q: Query, given: &[u32])
     if !found {
         return nothing_in(round);
     }
-    SearchResult {
-        round,
-        found: true,
-        total: here,
-        path,
-    }
+    found_in(round, here, path)
 }

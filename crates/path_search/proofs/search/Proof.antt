@@ -1,7 +1,7 @@
 -- `path_search::search` meets its contract: the tree is worked out in the round that applies, the bound asked of the source's number, and what is found above the given
 -- list written.
-use mathlib.Core.Path.{_≡_, refl, sym, ap, _∙_}
-use Prim.Native.Nat.{ℕ, _<_}
+use mathlib.Core.Path.{_≡_, refl, sym, ap, subst, _∙_}
+use Prim.Native.Nat.{ℕ, suc, _<_}
 use native.Mathlib.Omega.{arith}
 use borrow.Author.Needs.{needs}
 use borrow.Author.Tests.{not-true, not-false}
@@ -11,6 +11,7 @@ use Rattle.request.specs.declared.Query.{Query}
 use Rattle.request.specs.Query.{searchFor, Ready}
 use Rattle.tree_reaches.specs.Reaches.{codeAt}
 use Rattle.path_answers.specs.declared.SearchResult.{SearchResult}
+use Rattle.path_answers.specs.SearchResult.{ResultIs}
 use Rattle.path_step.specs.Worked.{Worked}
 use Rattle.tree_rounds.proofs.Source.{source-number}
 use Rattle.path_search.proofs.Searching.{worked-for, stands, some-way, sought-none, sought, none-above, result-none, ready-settled, fits-settled, sought-for}
@@ -107,18 +108,22 @@ returns-2 c =
     (c .before .before .before .above .ensures (searchFor (layoutOf (a .layout)) (a .s .now) (a .exclude .now) (settled at)) (worked at)
     (stands (layoutOf (a .layout)) (a .s .now) (a .exclude .now) (settled at) (pre .0 .0 .cheap) (bytes at) (ready at) _ (here-is at) way)) (not-true _ (c .before .if2 .taken))))
 
+found-in-requires : tie.Need-found-in-requires
+found-in-requires c κs = search needs
+
 returns-3 : tie.Need-returns-3
 returns-3 c =
-    let start = c .before .before .before .before .before .before .before .before .before .before .before .before .before .before .before .before .before .before .before .before .before .before in
+    let start = c .before .before .before .before .before .before .before .before .before .before .before .before .before .before .before .before .before .before .before .before .before .before .before in
     let a = start .args in
     let pre = start .pre in
-    let at = c .before .before .before .before .before .before .before .before .before .before .before .before .before in
-    let kept = sym (c .before .before .before .before .before .before .before .before .before .before .admissible .ensures) ∙ not-false (c .before .before .before .before .before .before .before .before .before .before .admissible .result) (c .before .before .before .before .before .before .before .before .before .if1 .left) in
+    let at = c .before .before .before .before .before .before .before .before .before .before .before .before .before .before in
+    let kept = sym (c .before .before .before .before .before .before .before .before .before .before .before .admissible .ensures) ∙ not-false (c .before .before .before .before .before .before .before .before .before .before .before .admissible .result) (c .before .before .before .before .before .before .before .before .before .before .if1 .left) in
     let way = some-way (layoutOf (a .layout)) (a .s .now) (a .exclude .now) (settled at) (pre .0 .0 .cheap) (bytes at) (ready at) _ (here-is at) (a .given .now) kept in
-    sought-for (layoutOf (a .layout)) (a .s .now) (a .exclude .now) (a .q) _ _ _ _ _ _ (at .settle .ensures) (a .given .now) _ refl
+    sought-for (layoutOf (a .layout)) (a .s .now) (a .exclude .now) (a .q) _ _ _ _ _ _ (at .settle .ensures) (a .given .now) _ (ap (λ (r : SearchResult). r .round) (c .found-in .ensures))
+    (subst (ResultIs (searchFor (layoutOf (a .layout)) (a .s .now) (a .exclude .now) (settled at)) (a .given .now) (suc (settled at .count))) (sym (c .found-in .ensures))
     (sought (layoutOf (a .layout)) (a .s .now) (a .exclude .now) (settled at) (pre .0 .0 .cheap) (bytes at) (ready at) _ (here-is at) (a .given .now) kept _ _ _ refl
-    (c .before .before .above .ensures (searchFor (layoutOf (a .layout)) (a .s .now) (a .exclude .now) (settled at)) (worked at)
-    (stands (layoutOf (a .layout)) (a .s .now) (a .exclude .now) (settled at) (pre .0 .0 .cheap) (bytes at) (ready at) _ (here-is at) way)) (not-false _ (c .if2 .left)))
+    (c .before .before .before .above .ensures (searchFor (layoutOf (a .layout)) (a .s .now) (a .exclude .now) (settled at)) (worked at)
+    (stands (layoutOf (a .layout)) (a .s .now) (a .exclude .now) (settled at) (pre .0 .0 .cheap) (bytes at) (ready at) _ (here-is at) way)) (not-false _ (c .before .if2 .left))))
 
 pub search-spec : {M : Type 1} → statement M
 search-spec =
@@ -133,4 +138,5 @@ search-spec =
     above-requires
     nothing-in-requires-2
     returns-2
+    found-in-requires
     returns-3)
