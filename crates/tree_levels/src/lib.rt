@@ -7,6 +7,7 @@ use profile_hop_range::pair_range;
 use profile_records::layout::Layout;
 ghost use mathlib.Core.Path.{_≡_};
 ghost use Prim.Native.Nat.{_+_, _-_, _≤_, _<_};
+ghost use lib.ListN.{length, set};
 ghost use Rattle.model.specs.Request.{Search};
 ghost use Rattle.profile_records.specs.Layout.{layoutOf, RightProfile};
 ghost use Rattle.tree_levels.specs.Levels.{Several, Covers, Room, Noted, LaidOut};
@@ -42,6 +43,21 @@ fn tallied(examined: usize, leg: HopRange) -> usize
     examined + (leg.last - leg.first)
 }
 
+// The destination behind the last domain's entries, at place i.
+fn put_destination(
+    destination: NodeAddress,
+    i: usize,
+    end: usize,
+    addresses: &mut [u32; 242],
+    starts: &mut [usize; 18],
+)
+    requires { ⌜ (i ≤ 16) × (end < 242) × (length (now addresses) ≡ 242) × (length (now starts) ≡ 18) ⌝ }
+    ensures { λ _. ⌜ (now (addresses .exit) ≡ set (now (addresses .entry)) end (destination .0)) × (now (starts .exit) ≡ set (now (starts .entry)) (i + 1) (end + 1)) ⌝ }
+{
+    addresses[end] = destination.0;
+    starts[i + 1] = end + 1;
+}
+
 // Lays out the places' addresses one after the other, where each place starts, and the hop records of each leg: how many of these there are in all.
 pub fn lay_out(
     s: &[u8],
@@ -74,7 +90,6 @@ pub fn lay_out(
     }
     let leg = note_leg(s, layout, domains[i], domains[i], i, firsts, lasts);
     examined = tallied(examined, leg);
-    addresses[end] = destination.0;
-    starts[i + 2] = end + 1;
+    put_destination(destination, i + 1, end, addresses, starts);
     examined
 }

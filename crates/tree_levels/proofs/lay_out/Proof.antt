@@ -1,5 +1,4 @@
 -- `tree_levels::lay_out` meets its contract. The loop's invariant: for every search over these domains, i legs are laid out (`Filled`). The measure is how many domains are left.
--- Assumes nothing.
 use Prim.Native.Nat.{ℕ, _+_, _-_, _*_, _≤_, _<_}
 use native.Mathlib.Omega.{arith}
 use mathlib.Core.Path.{_≡_, _∙_}
@@ -159,36 +158,28 @@ tallied-requires-2 c κs =
     let range = c .note-leg2 .ensures .range in
     (omega arith, range .order, omega (arith, few-hops (c .before .before .before .before .before .before .before), range .within))
 
-mul-addresses : tie.Need-mul-addresses Inv-loop μ-loop
-mul-addresses c = omega arith
+add-put-destination : tie.Need-add-put-destination Inv-loop μ-loop
+add-put-destination c = omega arith
 
-element-write-addresses-2 : tie.Need-element-write-addresses-2 Inv-loop μ-loop
-element-write-addresses-2 c = omega arith
-
-add-starts-2 : tie.Need-add-starts-2 Inv-loop μ-loop
-add-starts-2 c = omega arith
-
-add-starts-3 : tie.Need-add-starts-3 Inv-loop μ-loop
-add-starts-3 c = omega arith
-
-mul-starts-2 : tie.Need-mul-starts-2 Inv-loop μ-loop
-mul-starts-2 c = omega arith
-
-element-write-starts-4 : tie.Need-element-write-starts-4 Inv-loop μ-loop
-element-write-starts-4 c = omega arith
+put-destination-requires : tie.Need-put-destination-requires Inv-loop μ-loop
+put-destination-requires c κs =
+    let room = (c .before .before .before .before .before .before .before .before .before .loop) .inv .3 in
+    (omega arith, omega arith, room .for-addresses, room .for-starts)
 
 returns : tie.Need-returns Inv-loop μ-loop
 returns c =
-    let a = c .before .before .before .before .before .before .before .before .before .args in
-    let p = c .before .before .before .before .before .before .before .before .before .pre in
-    let l = c .before .before .before .before .before .before .before .loop in
-    let leg = c .before .note-leg2 in
+    let a = c .before .before .before .before .before .before .before .before .before .before .before .before .args in
+    let p = c .before .before .before .before .before .before .before .before .before .before .before .before .pre in
+    let l = c .before .before .before .before .before .before .before .before .before .before .loop in
+    let leg = c .before .before .before .before .note-leg2 in
+    let put = c .put-destination .ensures in
     λ S covers.
     let from-first : Covers S (layoutOf (a .layout)) (now (a .s)) (a .t3) (a .count) (getD (set (now (a .addresses)) 0 (a .source .0)) 0 0) (a .destination .0) =
     rw (getD-set-same (now (a .addresses)) 0 (a .source .0) 0 (omega (arith, p .1 .1 .for-addresses))) covers in
-    last-filled S (layoutOf (a .layout)) (now (a .s)) (a .t3) (a .count) _ _ (p .1 .0) covers (l .addresses) (l .starts) (l .firsts) (l .lasts) (l .end) (l .examined)
-    (l .i) (l .i + 2) _ _ (leg .result .first) (leg .result .last) (c .tallied2 .result) (l .inv .4 S from-first) (l .inv .3) (p .0 .passed) (omega arith) (omega arith) (omega arith)
-    (leg .ensures) (c .tallied2 .ensures)
+    rw (put .0, put .1)
+    (last-filled S (layoutOf (a .layout)) (now (a .s)) (a .t3) (a .count) _ _ (p .1 .0) covers (l .addresses) (l .starts) (l .firsts) (l .lasts) (l .end) (l .examined)
+    (l .i) (l .i + 1 + 1) _ _ (leg .result .first) (leg .result .last) (c .before .before .before .tallied2 .result) (l .inv .4 S from-first) (l .inv .3) (p .0 .passed) (omega arith) (omega arith) (omega arith)
+    (leg .ensures) (c .before .before .before .tallied2 .ensures))
 
 pub lay-out-spec : {M : Type 1} → statement M
 lay-out-spec =
@@ -221,10 +212,6 @@ lay-out-spec =
     array-copy-out-note-leg-4
     note-leg-requires-2
     tallied-requires-2
-    mul-addresses
-    element-write-addresses-2
-    add-starts-2
-    add-starts-3
-    mul-starts-2
-    element-write-starts-4
+    add-put-destination
+    put-destination-requires
     returns)
