@@ -332,9 +332,9 @@ uint32_t yq_series(const uint8_t *profile, size_t profile_count,
  *
  * The objects read are RP, END-POINTS for IPv4, BANDWIDTH type 1, METRIC, IRO
  * and XRO, in any order. All METRICs count; of every other object the first
- * does. Reserved bits, unassigned flags, P and I of these objects, and what
- * follows the fixed part of an RP, are not looked at. An object of any other
- * class or type is skipped where its P is clear.
+ * does. Reserved bits, unassigned flags, the XRO's flags, P and I of these
+ * objects, and what follows the fixed part of an RP, are not looked at. An
+ * object of any other class or type is skipped where its P is clear.
  *
  * The three lent buffers have an element for each METRIC, in the message's
  * order, so 5,460 elements each are always enough; their counts may differ:

@@ -106,7 +106,8 @@ static inline yq_answer yq_profile_pcreq_next(const yq_profile *profile,
     return yq_answered(YQ_CALL_PCREQ_NEXT, number, numbers);
 }
 
-/* Every shortest path of the request, from the first on. */
+/* Every shortest path of the request, from the first on. Profile and message must
+ * stay as they are meanwhile. */
 static inline yq_pcreq_paths yq_profile_pcreq_paths(const yq_profile *profile,
                                                     uint16_t ingress,
                                                     yq_bytes message)

@@ -319,7 +319,8 @@ static inline yq_answer yq_profile_next(const yq_profile *profile,
     return yq_answered(YQ_CALL_NEXT, number, numbers);
 }
 
-/* Every shortest path of a request, from the first on. */
+/* Every shortest path of a request, from the first on. Profile and request must
+ * stay as they are meanwhile. */
 static inline yq_paths yq_profile_paths(const yq_profile *profile,
                                         const yq_request *request)
 {

@@ -6,7 +6,7 @@ import unittest
 
 import cases
 from cases import BACK, EVERY, P, Q, S, T, U, W, WITHOUT_P, WITHOUT_Q, Z, number, request
-from yachayniq import Entry, Path, Profile, Stop, Tree, check_profile
+from yachayniq import Entry, Path, Profile, Request, Stop, Tree, check_profile
 
 # 64500 with OSPF area 0, 64501 with the areas 0 and 4
 AREAS = bytes.fromhex("445350000100000300000000") + b"".join(
@@ -115,6 +115,12 @@ class ProfileW(unittest.TestCase):
         self.assertEqual(profile.series(by_64497, ["first"]), [path((S, Z, Z), 2, 2.0, 1)])
         message = cases.pcreq(cases.RP, cases.ENDS, bytes.fromhex("0A120008 2004FBF1"))
         self.assertEqual(profile.pcreq_first(message), path((S, Z, Z), 2, 2.0, 1))
+        # The only hop of a profile of class 1, from 0.0.0.0 to 0.0.0.0.
+        profile = Profile(
+            bytes.fromhex("445350000101000100010000 00000001") + bytes(16)
+            + bytes(12) + bytes.fromhex("00000001 447A0000")
+        )
+        self.assertEqual(profile.first(Request(0, 0)), path(("0.0.0.0",) * 2, 1, 1.0, 1))
 
     def test_largest(self):
         profile, asked = cases.largest()
@@ -128,6 +134,11 @@ class ProfileW(unittest.TestCase):
         first = profile.first(asked)
         self.assertEqual((len(first.numbers), first.total), (17, tree.entries[0].cost))
         self.assertEqual((first.addresses[0], first.addresses[16]), (S, "192.0.2.254"))
+        # Domains of different ASs, each with an area of 13 bytes.
+        stops = [Stop(1), *(Stop(domain, U) for domain in range(3, 32, 2))]
+        written = profile.write_list(stops)
+        self.assertEqual((len(stops), len(written)), (16, 568))
+        self.assertEqual(profile.read_include(written, ingress=1), stops)
 
     def test_refusals(self):
         for call in self.w.tree, self.w.first:
@@ -135,6 +146,7 @@ class ProfileW(unittest.TestCase):
             self.refused(20, 0, call, request(ingress=3))
             self.refused(20, 0, call, request(ingress=65536))
             self.refused(20, 0, call, request(ingress=-1))
+            self.refused(20, 0, call, request(ingress=-65536))
             for wrong in -1.0, -0.0, 1e39, math.inf, math.nan:
                 self.refused(21, 0, call, request(bandwidth=wrong))
                 self.refused(21, 1, call, request(bound=wrong))
@@ -158,7 +170,7 @@ class ProfileW(unittest.TestCase):
         self.assertEqual(areas.read_include(areas.write_list(pinned)), pinned)
         self.refused(29, 0, areas.read_include, WRITTEN[16:24])
         self.refused(20, 0, areas.read_include, b"", ingress=3)
-        for wrong in [], [Stop(0)] * 2, [Stop(3)], [Stop(65536)], [Stop(0, U)]:
+        for wrong in [], [Stop(0)] * 2, [Stop(3)], [Stop(65536)], [Stop(-65536)], [Stop(0, U)]:
             self.refused(35, 0, areas.write_list, wrong)
 
 

@@ -71,6 +71,7 @@ impl Profile {
 }
 
 /// The shortest paths of a PCReq, from the first on.
+#[derive(Clone, Debug)]
 pub struct PcreqPaths<'a> {
     profile: &'a Profile,
     ingress: u16,

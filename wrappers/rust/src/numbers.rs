@@ -86,7 +86,7 @@ const ROWS: [(u32, Option<u32>, u32, &str); 60] = [
 
 pub(crate) fn meaning(call: Call, number: u32, place: u32) -> &'static str {
     let is_meant = |row: &&(u32, Option<u32>, u32, &str)| {
-        row.0 == number && row.2 >> call as u32 & 1 == 1 && row.1.map_or(true, |at| at == place)
+        row.0 == number && row.2 >> call as u32 & 1 == 1 && row.1.is_none_or(|at| at == place)
     };
     let unknown = "not a number of this call";
     ROWS.iter().find(is_meant).map_or(unknown, |row| row.3)

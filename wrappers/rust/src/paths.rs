@@ -44,12 +44,14 @@ impl Profile {
 }
 
 /// The shortest paths of a request, from the first on.
+#[derive(Clone, Debug)]
 pub struct Paths<'a> {
     profile: &'a Profile,
     request: Request<'a>,
     at: At,
 }
 
+#[derive(Clone, Debug)]
 pub(crate) enum At {
     First(Path),
     After(Vec<Ipv4Addr>),

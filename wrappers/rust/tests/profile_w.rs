@@ -122,7 +122,8 @@ fn wide_costs() {
 
 #[test]
 fn rounds() {
-    let cases: [(&[[u8; 8]], u32, &[[Ipv4Addr; 4]], [u32; 5]); 4] = [
+    type Case<'a> = (&'a [[u8; 8]], u32, &'a [[Ipv4Addr; 4]], [u32; 5]);
+    let cases: [Case; 4] = [
         (&[without(DESIRED, Q)], 1, &EVERY[..1], [14, 4, 0, 2, 3]),
         (
             &[without(DESIRED, P), without(DESIRED, Q)],

@@ -4,16 +4,15 @@
 mod common;
 
 use common::*;
+use std::fmt::Debug;
 use yachayniq::{
     check_profile, read_pcrep, read_pcreq, write_pcrep, write_pcreq, Metric, Pcrep, Pcreq, Refusal,
     Request,
 };
 
 #[track_caller]
-fn says<T>(result: Result<T, Refusal>, expected: &str) {
-    let Err(refusal) = result else {
-        panic!("not refused")
-    };
+fn says<T: Debug>(result: Result<T, Refusal>, expected: &str) {
+    let refusal = result.unwrap_err();
     assert_eq!(refusal.to_string(), format!("refused: number {expected}"));
     assert!(expected.ends_with(refusal.meaning()));
 }
@@ -86,6 +85,7 @@ fn of_messages() {
     says(w().pcreq_tree(0, &reply), header);
     says(w().pcreq_first(0, &reply), header);
     says(w().pcreq_next(0, &reply, &EVERY[0]), header);
+    says(w().pcreq_paths(0, &reply), header);
     let object = "38, place 16: object of another class or type, with P set \
         (place: offset in the message)";
     says(read_pcrep(&reply), object);
