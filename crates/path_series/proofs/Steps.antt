@@ -4,12 +4,11 @@ use Prim.Native.Nat.{ℕ, suc, _+_, _*_, _≤_, _<_}
 use native.Mathlib.Numerals.{add-one}
 use native.Mathlib.Omega.{arith}
 use mathlib.Core.Path.{_≡_, refl, sym, ap, ap₂, _∙_}
-use mathlib.Core.Bool.{Bool}
+use mathlib.Core.Bool.{Bool, true, false}
 use mathlib.Core.List.{List, [], _∷_, _++_, append-assoc, append-nil}
 use lib.Dec.{eqb}
 use lib.ListN.{length, getD, take, drop, take-append-drop, drop-of-length-le, length-drop}
-use lib.Seq.{length-take-le, take-all, drop-cons, drop-drop, slice-empty, paste, length-paste}
-use borrow.Author.Tests.{eq-eqb, ne-eqb}
+use lib.Seq.{length-take-le, take-all, drop-cons, drop-drop, slice-empty, length-paste}
 use Rattle.model.specs.declared.PathAnswer.{PathAnswer}
 use Rattle.model.specs.declared.PathAnswer.the-variants.{Found, NoPath, End, Refused}
 use Rattle.model.specs.Lists.{each, over, sum}
@@ -20,6 +19,8 @@ use Rattle.path_answers.specs.declared.PathReply.{PathReply}
 use Rattle.path_answers.specs.PathReply.{ReplyIs}
 use Rattle.path_series.specs.Calls.{kindOf, callsOf}
 use Rattle.path_answers.specs.Numbers.{fiveOf}
+use Rattle.path_series.specs.declared.calls.LastPath.{LastPath}
+use Rattle.path_series.specs.Turns.{ReplyPut, lastOf, lastPathAfter}
 use Rattle.path_series.specs.Runs.{numbersOf, bufferOf, Left}
 use Rattle.path_series.proofs.Forms.{Formed, sum-here, sum-none}
 use Rattle.path_series.proofs.Pieces.{pasted-take, pasted-drop}
@@ -28,24 +29,22 @@ use Rattle.path_series.proofs.Pieces.{pasted-take, pasted-drop}
 abbrev pub callsFrom : List ℕ → List ℕ → ℕ → ℕ → List ℕ → List Call
 callsFrom kinds sizes j at buffers = callsOf (drop j kinds) (drop j sizes) (drop at buffers)
 
--- the loop's state before call j: the path last handed out is the first n addresses of `last`, call j's buffer starts at `at`
-pub record Progress (r : Request) (kinds sizes buffers₀ numbers₀ buffers numbers last : List ℕ) (n at j : ℕ) : Type 0 where
+-- the loop's state before call j, whose buffer starts at `at`
+pub record Progress (r : Request) (kinds sizes buffers₀ numbers₀ buffers numbers : List ℕ) (last : LastPath) (at j : ℕ) : Type 0 where
   pub within : j ≤ length kinds
-  pub last-long : length last ≡ 17
-  pub few : n ≤ 17
+  pub few : last .count ≤ 17
   pub reach : at + sum (drop j sizes) ≡ length buffers₀
   pub buffers-long : length buffers ≡ length buffers₀
   pub numbers-long : length numbers ≡ length numbers₀
-  pub in-buffers : take at buffers ++ each bufferOf (run r (take n last) (callsFrom kinds sizes j at buffers)) ≡ each bufferOf (run r [] (callsOf kinds sizes buffers₀))
-  pub in-numbers : take (5 * j) numbers ++ each numbersOf (run r (take n last) (callsFrom kinds sizes j at buffers)) ≡ each numbersOf (run r [] (callsOf kinds sizes buffers₀))
+  pub in-buffers : take at buffers ++ each bufferOf (run r (lastOf last) (callsFrom kinds sizes j at buffers)) ≡ each bufferOf (run r [] (callsOf kinds sizes buffers₀))
+  pub in-numbers : take (5 * j) numbers ++ each numbersOf (run r (lastOf last) (callsFrom kinds sizes j at buffers)) ≡ each numbersOf (run r [] (callsOf kinds sizes buffers₀))
   pub behind : drop (5 * j) numbers ≡ drop (5 * j) numbers₀
 
-pub begin : (r : Request) (kinds sizes buffers numbers last : List ℕ) → length last ≡ 17 → Formed kinds sizes (length buffers) (length numbers)
-    → Progress r kinds sizes buffers numbers buffers numbers last 0 0 0
-begin r kinds sizes buffers numbers last l f =
+pub begin : (r : Request) (kinds sizes buffers numbers path : List ℕ) → Formed kinds sizes (length buffers) (length numbers)
+    → Progress r kinds sizes buffers numbers buffers numbers (record { path = path; count = 0 }) 0 0
+begin r kinds sizes buffers numbers path f =
     record {
       within = omega arith;
-      last-long = l;
       few = omega arith;
       reach = omega (arith, f .whole);
       buffers-long = refl;
@@ -78,29 +77,25 @@ run-here r given c cs room R e by =
     (sym (by .numbers-are))
     (sym (by .written-is))
 
--- the path last handed out after a call
-abbrev pub keptAfter : PathReply → List ℕ → List ℕ
-keptAfter R given = lastAfter (eqb ((numbersOfPath (R .answer)) .answer) 0) (take (R .count) (R .path)) given
+-- the path last handed out after a call: as the run has it, and at most 17 addresses
+module _ (R : PathReply) (last : LastPath) where
+  last-after : (b : Bool) → lastOf (lastPathAfter b R last) ≡ lastAfter b (take (R .count) (R .path)) (lastOf last)
+  last-after true = refl
+  last-after false = refl
 
-pub five-long : (a : PathAnswer) → length (fiveOf (numbersOfPath a)) ≡ 5
+  few-after : (b : Bool) → R .count ≤ 17 → last .count ≤ 17 → (lastPathAfter b R last) .count ≤ 17
+  few-after true f g = f
+  few-after false f g = g
+
+five-long : (a : PathAnswer) → length (fiveOf (numbersOfPath a)) ≡ 5
 five-long (Found n x y) = refl
 five-long NoPath = refl
 five-long End = refl
 five-long (Refused x) = refl
 
--- it is the path written where the answer is 0, else it stays
-module _ (R : PathReply) (given last′ : List ℕ) (n′ : ℕ) where
-  pub kept-new : (numbersOfPath (R .answer)) .answer ≡ 0 → last′ ≡ R .path → n′ ≡ R .count → take n′ last′ ≡ keptAfter R given
-  kept-new z p q =
-      ap₂ (λ (k : ℕ) (l : List ℕ). take k l) q p
-      ∙ sym (ap (λ (b : Bool). lastAfter b (take (R .count) (R .path)) given) (eq-eqb ((numbersOfPath (R .answer)) .answer) 0 z))
-
-  pub kept-old : ((numbersOfPath (R .answer)) .answer ≡ 0 → ⊥) → take n′ last′ ≡ given → take n′ last′ ≡ keptAfter R given
-  kept-old z p = p ∙ sym (ap (λ (b : Bool). lastAfter b (take (R .count) (R .path)) given) (ne-eqb ((numbersOfPath (R .answer)) .answer) 0 z))
-
-module _ (r : Request) (kinds sizes buffers₀ numbers₀ buffers numbers last : List ℕ) (n at j : ℕ)
+module _ (r : Request) (kinds sizes buffers₀ numbers₀ buffers numbers : List ℕ) (last : LastPath) (at j : ℕ)
     (formed : Formed kinds sizes (length buffers₀) (length numbers₀))
-    (so-far : Progress r kinds sizes buffers₀ numbers₀ buffers numbers last n at j)
+    (so-far : Progress r kinds sizes buffers₀ numbers₀ buffers numbers last at j)
     (h : j < length kinds)
   where
     abbrev size : ℕ
@@ -116,38 +111,47 @@ module _ (r : Request) (kinds sizes buffers₀ numbers₀ buffers numbers last :
     pub numbers-here : 5 * j + 5 ≤ length numbers
     numbers-here = omega (arith, formed .five, so-far .numbers-long)
 
-    module _ (R : PathReply) (by : ReplyIs (callOutcome r (take n last) (kindOf (getD kinds j 0)) size) size R) where
+    module _ (R : PathReply) (by : ReplyIs (callOutcome r (lastOf last) (kindOf (getD kinds j 0)) size) size R) where
       abbrev reply : Reply
       reply = record { numbers = numbersOfPath (R .answer); buffer = over (take (R .count) (R .path)) (take size (drop at buffers)) }
 
-      replies-here : run r (take n last) (callsFrom kinds sizes j at buffers)
-          ≡ reply ∷ run r (keptAfter R (take n last)) (callsOf (drop (suc j) kinds) (drop (suc j) sizes) (drop size (drop at buffers)))
+      -- the path that the run gives a next behind this call
+      abbrev given : List ℕ
+      given = lastAfter (eqb ((numbersOfPath (R .answer)) .answer) 0) (take (R .count) (R .path)) (lastOf last)
+
+      replies-here : run r (lastOf last) (callsFrom kinds sizes j at buffers)
+          ≡ reply ∷ run r given (callsOf (drop (suc j) kinds) (drop (suc j) sizes) (drop size (drop at buffers)))
       replies-here =
-          ap (run r (take n last)) (calls-here kinds sizes buffers j at h (omega (arith, formed .as-many)))
-          ∙ run-here r (take n last) (record { kind = kindOf (getD kinds j 0); buffer = take size (drop at buffers) })
+          ap (run r (lastOf last)) (calls-here kinds sizes buffers j at h (omega (arith, formed .as-many)))
+          ∙ run-here r (lastOf last) (record { kind = kindOf (getD kinds j 0); buffer = take size (drop at buffers) })
           (callsOf (drop (suc j) kinds) (drop (suc j) sizes) (drop size (drop at buffers))) size R
           (length-take-le size (drop at buffers) (rw length-drop (omega (arith, room-here)))) by
 
-      module _ (buffers′ numbers′ last′ : List ℕ) (n′ : ℕ)
-          (put : buffers′ ≡ paste buffers at (R .path) (R .count))
-          (told : numbers′ ≡ paste numbers (5 * j) (fiveOf (numbersOfPath (R .answer))) 5)
-          (kept : take n′ last′ ≡ keptAfter R (take n last))
+      module _ (number : ℕ) (buffers′ numbers′ : List ℕ) (last′ : LastPath)
+          (put : ReplyPut R buffers at numbers j number buffers′ numbers′)
+          (kept : last′ ≡ lastPathAfter (eqb number 0) R last)
         where
-          abbrev rest : List Reply
-          rest = run r (take n′ last′) (callsFrom kinds sizes (j + 1) (at + size) buffers′)
+          last-is : lastOf last′ ≡ given
+          last-is =
+              ap lastOf kept
+              ∙ last-after R last (eqb number 0)
+              ∙ ap (λ (n : ℕ). lastAfter (eqb n 0) (take (R .count) (R .path)) (lastOf last)) (put .number-is)
 
-          replies-now : run r (take n last) (callsFrom kinds sizes j at buffers) ≡ reply ∷ rest
+          abbrev rest : List Reply
+          rest = run r (lastOf last′) (callsFrom kinds sizes (j + 1) (at + size) buffers′)
+
+          replies-now : run r (lastOf last) (callsFrom kinds sizes j at buffers) ≡ reply ∷ rest
           replies-now =
               replies-here
-              ∙ ap₂ (λ (g b : List ℕ). reply ∷ run r g (callsOf (drop (suc j) kinds) (drop (suc j) sizes) b)) (sym kept)
-              (sym (ap (drop (at + size)) put ∙ pasted-drop buffers (R .path) at (R .count) size room-here (by .fits) (omega (arith, by .few, by .long))))
-              ∙ ap (λ (k : ℕ). reply ∷ run r (take n′ last′) (callsFrom kinds sizes k (at + size) buffers′)) (sym (add-one j))
+              ∙ ap₂ (λ (g b : List ℕ). reply ∷ run r g (callsOf (drop (suc j) kinds) (drop (suc j) sizes) b)) (sym last-is)
+              (sym (ap (drop (at + size)) (put .in-buffers) ∙ pasted-drop buffers (R .path) at (R .count) size room-here (by .fits) (omega (arith, by .few, by .long))))
+              ∙ ap (λ (k : ℕ). reply ∷ run r (lastOf last′) (callsFrom kinds sizes k (at + size) buffers′)) (sym (add-one j))
 
-          buffers-now : take (at + size) buffers′ ++ each bufferOf rest ≡ take at buffers ++ each bufferOf (run r (take n last) (callsFrom kinds sizes j at buffers))
+          buffers-now : take (at + size) buffers′ ++ each bufferOf rest ≡ take at buffers ++ each bufferOf (run r (lastOf last) (callsFrom kinds sizes j at buffers))
           unfolding each
           buffers-now =
               ap (λ (l : List ℕ). l ++ each bufferOf rest)
-              (ap (take (at + size)) put ∙ pasted-take buffers (R .path) at (R .count) size room-here (by .fits) (omega (arith, by .few, by .long)))
+              (ap (take (at + size)) (put .in-buffers) ∙ pasted-take buffers (R .path) at (R .count) size room-here (by .fits) (omega (arith, by .few, by .long)))
               ∙ append-assoc (take at buffers) (bufferOf reply) (each bufferOf rest)
               ∙ ap (λ (xs : List Reply). take at buffers ++ each bufferOf xs) (sym replies-now)
 
@@ -169,11 +173,11 @@ module _ (r : Request) (kinds sizes buffers₀ numbers₀ buffers numbers last :
           more : 5 * (j + 1) ≡ 5 * j + 5
           more = omega arith
 
-          numbers-now : take (5 * (j + 1)) numbers′ ++ each numbersOf rest ≡ take (5 * j) numbers ++ each numbersOf (run r (take n last) (callsFrom kinds sizes j at buffers))
+          numbers-now : take (5 * (j + 1)) numbers′ ++ each numbersOf rest ≡ take (5 * j) numbers ++ each numbersOf (run r (lastOf last) (callsFrom kinds sizes j at buffers))
           unfolding each
           numbers-now =
               ap (λ (l : List ℕ). l ++ each numbersOf rest)
-              (ap₂ (λ (k : ℕ) (l : List ℕ). take k l) more told
+              (ap₂ (λ (k : ℕ) (l : List ℕ). take k l) more (put .in-numbers)
               ∙ pasted-take numbers F (5 * j) 5 5 numbers-here (omega arith) (omega (arith, five))
               ∙ ap (λ (l : List ℕ). take (5 * j) numbers ++ l) five-over)
               ∙ append-assoc (take (5 * j) numbers) F (each numbersOf rest)
@@ -181,21 +185,20 @@ module _ (r : Request) (kinds sizes buffers₀ numbers₀ buffers numbers last :
 
           behind-now : drop (5 * (j + 1)) numbers′ ≡ drop (5 * (j + 1)) numbers₀
           behind-now =
-              ap₂ (λ (k : ℕ) (l : List ℕ). drop k l) more told
+              ap₂ (λ (k : ℕ) (l : List ℕ). drop k l) more (put .in-numbers)
               ∙ pasted-drop numbers F (5 * j) 5 5 numbers-here (omega arith) (omega (arith, five))
               ∙ ap (drop 5) (so-far .behind)
               ∙ drop-drop 5 (5 * j) numbers₀
               ∙ ap (λ (k : ℕ). drop k numbers₀) (sym more)
 
-          pub turn : length last′ ≡ 17 → n′ ≤ 17 → Progress r kinds sizes buffers₀ numbers₀ buffers′ numbers′ last′ n′ (at + size) (j + 1)
-          turn long few =
+          pub turn : Progress r kinds sizes buffers₀ numbers₀ buffers′ numbers′ last′ (at + size) (j + 1)
+          turn =
               record {
                 within = omega arith;
-                last-long = long;
-                few = few;
+                few = rw kept (few-after R last (eqb number 0) (by .few) (so-far .few));
                 reach = omega (arith, left-sum, so-far .reach);
-                buffers-long = ap length put ∙ length-paste buffers at (R .path) (R .count) (omega (arith, room-here, by .fits)) (omega (arith, by .few, by .long)) ∙ so-far .buffers-long;
-                numbers-long = ap length told ∙ length-paste numbers (5 * j) F 5 numbers-here (omega (arith, five)) ∙ so-far .numbers-long;
+                buffers-long = ap length (put .in-buffers) ∙ length-paste buffers at (R .path) (R .count) (omega (arith, room-here, by .fits)) (omega (arith, by .few, by .long)) ∙ so-far .buffers-long;
+                numbers-long = ap length (put .in-numbers) ∙ length-paste numbers (5 * j) F 5 numbers-here (omega (arith, five)) ∙ so-far .numbers-long;
                 in-buffers = buffers-now ∙ so-far .in-buffers;
                 in-numbers = numbers-now ∙ so-far .in-numbers;
                 behind = behind-now;
@@ -203,14 +206,14 @@ module _ (r : Request) (kinds sizes buffers₀ numbers₀ buffers numbers last :
 
 -- ---- after the last call
 
-module _ (r : Request) (kinds sizes buffers₀ numbers₀ buffers numbers last : List ℕ) (n at j : ℕ)
+module _ (r : Request) (kinds sizes buffers₀ numbers₀ buffers numbers : List ℕ) (last : LastPath) (at j : ℕ)
     (formed : Formed kinds sizes (length buffers₀) (length numbers₀))
-    (so-far : Progress r kinds sizes buffers₀ numbers₀ buffers numbers last n at j)
+    (so-far : Progress r kinds sizes buffers₀ numbers₀ buffers numbers last at j)
     (h : length kinds ≤ j)
   where
-    none-left : run r (take n last) (callsFrom kinds sizes j at buffers) ≡ []
+    none-left : run r (lastOf last) (callsFrom kinds sizes j at buffers) ≡ []
     unfolding run callsOf
-    none-left = ap (λ (ks : List ℕ). run r (take n last) (callsOf ks (drop j sizes) (drop at buffers))) (drop-of-length-le kinds h)
+    none-left = ap (λ (ks : List ℕ). run r (lastOf last) (callsOf ks (drop j sizes) (drop at buffers))) (drop-of-length-le kinds h)
 
     all-buffers : take at buffers ≡ each bufferOf (run r [] (callsOf kinds sizes buffers₀))
     unfolding each

@@ -4,6 +4,7 @@ use mathlib.Core.List.{List}
 use Prim.Native.Nat.{ℕ, zero, suc}
 use native.Mathlib.Omega.{arith}
 use borrow.Author.Needs.{needs}
+use lib.ListN.{length}
 use lib.Seq.{length-take-le}
 use Rattle.model.specs.Request.{Request}
 use Rattle.model.specs.Calls.{first, next}
@@ -30,14 +31,19 @@ first-route-requires c κs = search needs
 returns : tie.Need-returns
 returns c = first-made _ _ _ _ _ (c .before .if1 .taken) (c .first-route .ensures)
 
+array-share-prefix-path : tie.Need-array-share-prefix-path
+array-share-prefix-path c =
+    let long : length (c .before .before .before .before .before .args .last .path) ≡ 17 = search needs in
+    omega arith
+
 slice-aggregate-next-route : tie.Need-slice-aggregate-next-route
-slice-aggregate-next-route c = sym (length-take-le _ _ (c .before .before .before .before .before .before .pre))
+slice-aggregate-next-route c = sym (length-take-le _ _ (array-share-prefix-path (c .before)))
 
 next-route-requires : tie.Need-next-route-requires
 next-route-requires c κs = search needs
 
 returns-2 : tie.Need-returns-2
-returns-2 c = next-made _ _ _ _ _ (c .before .before .if1 .left) (c .next-route .ensures)
+returns-2 c = next-made _ _ _ _ _ (c .before .before .before .if1 .left) (c .next-route .ensures)
 
 pub call-spec : {M : Type 1} → statement M
 call-spec =
@@ -45,6 +51,7 @@ call-spec =
     (tie.spec
     first-route-requires
     returns
+    array-share-prefix-path
     slice-aggregate-next-route
     next-route-requires
     returns-2)
