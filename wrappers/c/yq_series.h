@@ -7,6 +7,8 @@
  *     yq_calls calls;
  *     yq_answer answer = yq_profile_series(&profile, &request, kinds, 3, room,
  *                                          &calls);
+ *     if (answer.number != 0)
+ *         ... 100, a kind that is neither: no call is made ...
  *     for (size_t i = 0; i < calls.count; i++) {
  *         yq_path path;
  *         answer = yq_calls_get(&calls, i, &path);
