@@ -6,7 +6,7 @@ ghost use mathlib.Core.Path.{_≡_};
 ghost use Prim.Native.Nat.{_+_, _≤_};
 ghost use lib.ListN.{length};
 ghost use Rattle.model.specs.Bytes.{number};
-ghost use Rattle.pcep_model.specs.Pcreq.{bitsAt, listIn};
+ghost use Rattle.pcep_model.specs.Pcreq.{rpFlagsAt, requestIdAt, bitsAt, listIn};
 ghost use Rattle.pcep_laws.specs.Left.{Stands};
 ghost use Rattle.pcep_message.specs.Extents.{ExtentIs};
 
@@ -19,6 +19,22 @@ pub fn bits_at(message: &[u8], at: usize, behind: usize) -> u32
         return 0;
     }
     u32_at(message, at + behind)
+}
+
+// What an RP holds: the flags that are assigned, and the request-ID.
+pub struct RpFields {
+    pub flags: u32,
+    pub id: u32,
+}
+
+pub fn rp_at(message: &[u8], at: usize) -> RpFields
+    requires { ⌜ (length (now message) ≤ 65535) × (at + 12 ≤ length (now message)) ⌝ }
+    ensures { λ r. ⌜ (r .flags ≡ rpFlagsAt (now (message .entry)) at) × (r .id ≡ requestIdAt (now (message .entry)) at) ⌝ }
+{
+    RpFields {
+        flags: u32_at(message, at + 4) % 64,
+        id: u32_at(message, at + 8),
+    }
 }
 
 // The list that an object holds behind its fixed part.

@@ -24,12 +24,18 @@ use Rattle.pcep_model.specs.Metrics.{Metric, metrics, valueAt, outOfRang
 
 -- ---- fields, each of the first object of its kind
 
--- RP: flags, of which O, B, R and Pri are assigned, then the request-ID
+-- RP: flags, of which O, B, R and Pri are assigned, then the request-ID; those of the first one count
+abbrev pub rpFlagsAt : List ℕ → ℕ → ℕ
+rpFlagsAt s at = number 4 s (at + 4) % 64
+
+abbrev pub requestIdAt : List ℕ → ℕ → ℕ
+requestIdAt s at = number 4 s (at + 8)
+
 abbrev pub rpFlagsOf : List ℕ → ℕ
-rpFlagsOf s = number 4 s (firstObject RP s + 4) % 64
+rpFlagsOf s = rpFlagsAt s (firstObject RP s)
 
 abbrev pub requestIdOf : List ℕ → ℕ
-requestIdOf s = number 4 s (firstObject RP s + 8)
+requestIdOf s = requestIdAt s (firstObject RP s)
 
 abbrev pub sourceOf : List ℕ → ℕ
 sourceOf s = number 4 s (firstObject END-POINTS s + 4)

@@ -6,12 +6,12 @@ use pcep_ero::ero_verdict;
 use pcep_message::frame;
 use pcep_message::parts::extent_of;
 use pcep_message::parts::list_in;
+use pcep_message::parts::rp_at;
 use pcep_metrics::judge;
 use pcep_model::Extent;
 use pcep_model::MessageKind;
 use pcep_model::PcrepFields;
 use refusal::refuse;
-use wire::u32_at;
 ghost use mathlib.Core.Path.{_≡_};
 ghost use Prim.Native.Nat.{_≤_};
 ghost use lib.ListN.{length};
@@ -62,13 +62,13 @@ fn fields_of(message: &[u8], firsts: [u16; 18], addresses: usize, metrics: usize
     requires { ⌜ Framed (now message) firsts addresses metrics ⌝ }
     ensures { λ r. ⌜ r ≡ pcrepFields (now (message .entry)) ⌝ }
 {
-    let rp = firsts[2] as usize;
+    let rp = rp_at(message, firsts[2] as usize);
     let no_path = firsts[3] as usize;
     let route = route_at(firsts[7] as usize, no_path);
     let issue = issue_of(message, route, no_path);
     PcrepFields {
-        id: u32_at(message, rp + 8),
-        flags: u32_at(message, rp + 4) % 64,
+        id: rp.id,
+        flags: rp.flags,
         found: route != 0,
         nature: issue.nature,
         c: issue.c,

@@ -1,12 +1,11 @@
 -- The checks behind the frame's, one by one: each refusal is the first that refuses, and where none does the message passes.
-use Prim.Native.Nat.{ℕ, _≤_, _<_}
-use native.Mathlib.Omega.{arith}
+use Prim.Native.Nat.{ℕ}
 use mathlib.Core.Path.{_≡_, refl, sym, ap, ap₂, _∙_}
-use mathlib.Core.Bool.{true, false}
+use mathlib.Core.Bool.{Bool}
 use mathlib.Core.List.{List}
 use lib.ListN.{length}
-use lib.Dec.{leb, ltb}
-use borrow.Author.Tests.{lt-ltb, le-ltb, le-leb, lt-leb, ltb-false}
+use lib.Dec.{ltb}
+use borrow.Author.Tests.{ltb-false}
 use Rattle.model.specs.declared.Refusal.{Refusal}
 use Rattle.model.specs.declared.Verdict.{Verdict}
 use Rattle.model.specs.declared.Verdict.the-variants.{Pass, Refuse}
@@ -18,7 +17,7 @@ use Rattle.pcep_model.specs.declared.MessageKind.the-variants.{Pcreq}
 use Rattle.pcep_model.specs.declared.PcreqFields.{PcreqFields}
 use Rattle.pcep_model.specs.Objects.{messageVerdict}
 use Rattle.pcep_model.specs.Metrics.{metrics, outOfRange}
-use Rattle.pcep_model.specs.Pcreq.{bandwidthOf, floatsVerdict, listIn, includeExtent, excludeExtent, pcreqFields, pcreqVerdict}
+use Rattle.pcep_model.specs.Pcreq.{floatsVerdict, listIn, includeExtent, excludeExtent, pcreqFields, pcreqVerdict}
 use Rattle.pcep_request_reader.specs.declared.fields.PcreqParts.{PcreqParts}
 use Rattle.pcep_request_reader.specs.ParsedPcreq.{PartsAre}
 use Rattle.pcep_request_reader.specs.Reading.{restVerdict, PassedPcreq}
@@ -31,40 +30,28 @@ module _ (s : List ℕ) (t : PcreqParts) (is : PartsAre s t) where
   pub lists-are : (test : List ℕ → List ℕ → Verdict) (a b : List ℕ) → a ≡ listIn s (t .fields .include) → b ≡ listIn s (t .fields .exclude) → test a b ≡ test (listIn s (includeExtent s)) (listIn s (excludeExtent s))
   lists-are test a b x y = ap₂ test (x ∙ ap (λ (f : PcreqFields). listIn s (f .include)) are) (y ∙ ap (λ (f : PcreqFields). listIn s (f .exclude)) are)
 
+  floats-are : refuseIf (outOfRange (t .fields .bandwidth)) 21 0 andThen refuseIf (t .wrong) 21 1 ≡ floatsVerdict s
+  floats-are = ap₂ (λ (f : PcreqFields) (w : Bool). refuseIf (outOfRange (f .bandwidth)) 21 0 andThen refuseIf w 21 1) are (is .wrong)
+
+  -- what was asked of the floats taken apart is asked of the message's
+  pub floats-told : (v w : Verdict) → v ≡ refuseIf (outOfRange (t .fields .bandwidth)) 21 0 andThen refuseIf (t .wrong) 21 1 → v ≡ w → floatsVerdict s ≡ w
+  floats-told v w e q = sym floats-are ∙ sym e ∙ q
+
   module _ (room : ℕ) where
-    wide : leb 0x7f800000 (t .fields .bandwidth) ≡ outOfRange (bandwidthOf s)
-    wide = ap (λ (f : PcreqFields). leb 0x7f800000 (f .bandwidth)) are
+    pub by-floats : (x : Refusal) → floatsVerdict s ≡ Refuse x → Refuse x ≡ restVerdict s room
+    by-floats x e = sym (rw e refl)
 
-    pub by-bandwidth : 0x7f800000 ≤ t .fields .bandwidth → refuseIf true 21 0 ≡ restVerdict s room
-    by-bandwidth h = sym (rw (sym wide ∙ le-leb 0x7f800000 (t .fields .bandwidth) h) refl)
+    module _ (floats : floatsVerdict s ≡ Pass) where
+      pub by-sizes : (x : Refusal) → sizesVerdict (listIn s (includeExtent s)) (listIn s (excludeExtent s)) ≡ Refuse x → Refuse x ≡ restVerdict s room
+      by-sizes x e = sym (rw (floats, e) refl)
 
-    module _ (in-range : t .fields .bandwidth < 0x7f800000) where
-      right : outOfRange (bandwidthOf s) ≡ false
-      right = sym wide ∙ lt-leb 0x7f800000 (t .fields .bandwidth) in-range
+      module _ (sizes : sizesVerdict (listIn s (includeExtent s)) (listIn s (excludeExtent s)) ≡ Pass) where
+        pub by-forms : (x : Refusal) → formsVerdict (listIn s (includeExtent s)) (listIn s (excludeExtent s)) ≡ Refuse x → Refuse x ≡ restVerdict s room
+        by-forms x e = sym (rw (floats, sizes, e) refl)
 
-      pub by-metric : t .wrong ≡ true → refuseIf true 21 1 ≡ restVerdict s room
-      by-metric w = sym (rw (right, sym (is .wrong) ∙ w) refl)
-
-      module _ (none : t .wrong ≡ false) where
-        floats : floatsVerdict s ≡ Pass
-        floats = rw (right, sym (is .wrong) ∙ none) refl
-
-        pub by-sizes : (x : Refusal) → sizesVerdict (listIn s (includeExtent s)) (listIn s (excludeExtent s)) ≡ Refuse x → Refuse x ≡ restVerdict s room
-        by-sizes x e = sym (rw (floats, e) refl)
-
-        module _ (sizes : sizesVerdict (listIn s (includeExtent s)) (listIn s (excludeExtent s)) ≡ Pass) where
-          pub by-forms : (x : Refusal) → formsVerdict (listIn s (includeExtent s)) (listIn s (excludeExtent s)) ≡ Refuse x → Refuse x ≡ restVerdict s room
-          by-forms x e = sym (rw (floats, sizes, e) refl)
-
-          module _ (forms : formsVerdict (listIn s (includeExtent s)) (listIn s (excludeExtent s)) ≡ Pass) where
-            count : t .fields .metrics ≡ length (metrics s)
-            count = ap (λ (f : PcreqFields). f .metrics) are
-
-            pub by-room : room < t .fields .metrics → refuseIf true 34 0 ≡ restVerdict s room
-            by-room h = let c = count in sym (rw (floats, sizes, forms, lt-ltb room (length (metrics s)) (omega arith)) refl)
-
-            pub rest-passes : t .fields .metrics ≤ room → Pass ≡ restVerdict s room
-            rest-passes h = let c = count in sym (rw (floats, sizes, forms, le-ltb room (length (metrics s)) (omega arith)) refl)
+        module _ (forms : formsVerdict (listIn s (includeExtent s)) (listIn s (excludeExtent s)) ≡ Pass) where
+          pub by-room : roomVerdict (t .fields .metrics) room ≡ restVerdict s room
+          by-room = ap (λ (f : PcreqFields). roomVerdict (f .metrics) room) are ∙ sym (rw (floats, sizes, forms) refl)
 
 -- ---- with the frame's
 

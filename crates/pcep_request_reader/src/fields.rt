@@ -5,6 +5,7 @@ use model::Verdict;
 use pcep_message::frame;
 use pcep_message::parts::bits_at;
 use pcep_message::parts::extent_of;
+use pcep_message::parts::rp_at;
 use pcep_metrics::judge;
 use pcep_model::MessageKind;
 use pcep_model::PcreqFields;
@@ -29,13 +30,13 @@ fn fields_of(message: &[u8], firsts: [u16; 18], metrics: usize) -> PcreqFields
     requires { ⌜ Framed (now message) firsts metrics ⌝ }
     ensures { λ r. ⌜ FieldsAre (now (message .entry)) r ⌝ }
 {
-    let rp = firsts[2] as usize;
+    let rp = rp_at(message, firsts[2] as usize);
     let ends = firsts[4] as usize;
     let include = extent_of(message, firsts[10] as usize, 4);
     let exclude = extent_of(message, firsts[17] as usize, 8);
     PcreqFields {
-        id: u32_at(message, rp + 8),
-        flags: u32_at(message, rp + 4) % 64,
+        id: rp.id,
+        flags: rp.flags,
         source: NodeAddress(u32_at(message, ends + 4)),
         destination: NodeAddress(u32_at(message, ends + 8)),
         bandwidth: bits_at(message, firsts[5] as usize, 4),

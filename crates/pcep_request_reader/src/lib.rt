@@ -11,11 +11,37 @@ use refusal::refuse;
 use request::checks::forms_verdict;
 use request::checks::sizes_verdict;
 ghost use mathlib.Core.Path.{_≡_};
+ghost use Rattle.model.specs.Calls.{roomVerdict};
+ghost use Rattle.model.specs.Verdict.{refuseIf, _andThen_};
+ghost use Rattle.pcep_model.specs.Metrics.{outOfRange};
 ghost use Rattle.pcep_request_reader.specs.ParsedPcreq.{PartsAre};
 ghost use Rattle.pcep_request_reader.specs.Reading.{ReadBy, CheckedPcreqIs, restVerdict};
 
 pub mod carried;
 pub mod fields;
+
+// 21 for the bandwidth, then for some METRIC that is out of range.
+fn floats_verdict(bandwidth: u32, wrong: bool) -> Verdict
+    ensures { λ r. ⌜ r ≡ refuseIf (outOfRange bandwidth) 21 0 andThen refuseIf wrong 21 1 ⌝ }
+{
+    if 0x7F800000 <= bandwidth {
+        return refuse(21, 0);
+    }
+    if wrong {
+        return refuse(21, 1);
+    }
+    Verdict::Pass
+}
+
+// 34 for the METRICs.
+fn metrics_verdict(metrics: u32, room: usize) -> Verdict
+    ensures { λ r. ⌜ r ≡ roomVerdict metrics room ⌝ }
+{
+    if room < metrics as usize {
+        return refuse(34, 0);
+    }
+    Verdict::Pass
+}
 
 // What is left to check of a PCReq whose frame passes: 21, 22, the form of both lists, then 34.
 fn rest_verdict(message: &[u8], parts: PcreqParts, room: usize) -> Verdict
@@ -23,11 +49,9 @@ fn rest_verdict(message: &[u8], parts: PcreqParts, room: usize) -> Verdict
     ensures { λ r. ⌜ r ≡ restVerdict (now (message .entry)) room ⌝ }
 {
     let fields = parts.fields;
-    if 0x7F800000 <= fields.bandwidth {
-        return refuse(21, 0);
-    }
-    if parts.wrong {
-        return refuse(21, 1);
+    let floats = floats_verdict(fields.bandwidth, parts.wrong);
+    if let Verdict::Refuse(r) = floats {
+        return Verdict::Refuse(r);
     }
     let include = list_in(message, fields.include);
     let exclude = list_in(message, fields.exclude);
@@ -39,10 +63,7 @@ fn rest_verdict(message: &[u8], parts: PcreqParts, room: usize) -> Verdict
     if let Verdict::Refuse(r) = forms {
         return Verdict::Refuse(r);
     }
-    if room < fields.metrics as usize {
-        return refuse(34, 0);
-    }
-    Verdict::Pass
+    metrics_verdict(fields.metrics, room)
 }
 
 // The first check of a PCReq that refuses, or its fields.

@@ -16,11 +16,21 @@ use borrow.Author.Needs.{needs}
 use Rattle.pcep_reply_reader.proofs.fields.fields_of.Statement.{statement}
 use Rattle.pcep_reply_reader.proofs.fields.fields_of.Tie as tie
 
-array-read-rp : tie.Need-array-read-rp
-array-read-rp c = search needs
+-- the RP stands, and the place gone by is the definition's
+rp : (c : tie.Start) → Stands (c .args .message .now) (getD (c .args .t2) RP 0) 12
+rp c =
+    let p = c .pre in
+    subst (λ (at : ℕ). Stands (c .args .message .now) at 12) (sym (p .firsts-are RP (omega arith)))
+    (object-stands Pcrep (c .args .message .now) (p .right) RP (omega arith) (has-rp Pcrep (c .args .message .now) (p .verdict)))
 
-cast-rp : tie.Need-cast-rp
-cast-rp c = search needs
+array-read-rp-at : tie.Need-array-read-rp-at
+array-read-rp-at c = search needs
+
+cast-rp-at : tie.Need-cast-rp-at
+cast-rp-at c = search needs
+
+rp-at-requires : tie.Need-rp-at-requires
+rp-at-requires c κs = let o = rp (c .before) in (c .before .pre .short, omega (arith, o .long, o .inside))
 
 array-read-no-path : tie.Need-array-read-no-path
 array-read-no-path c = search needs
@@ -34,16 +44,9 @@ array-read-route-at c = search needs
 cast-route-at : tie.Need-cast-route-at
 cast-route-at c = search needs
 
--- the RP stands, and the place gone by is the definition's
-rp : (c : tie.Start) → Stands (c .args .message .now) (getD (c .args .t2) RP 0) 12
-rp c =
-    let p = c .pre in
-    subst (λ (at : ℕ). Stands (c .args .message .now) at 12) (sym (p .firsts-are RP (omega arith)))
-    (object-stands Pcrep (c .args .message .now) (p .right) RP (omega arith) (has-rp Pcrep (c .args .message .now) (p .verdict)))
-
-route-is : (c : tie.After-route-at) → let s = c .before .before .args .message .now in c .route-at .result ≡ routeAt (firstObject ERO s) (firstObject NO-PATH s)
+route-is : (c : tie.After-route-at) → let s = c .before .before .before .args .message .now in c .route-at .result ≡ routeAt (firstObject ERO s) (firstObject NO-PATH s)
 route-is c =
-    let p = c .before .before .pre in
+    let p = c .before .before .before .pre in
     c .route-at .ensures ∙ ap₂ routeAt (p .firsts-are ERO (omega arith)) (p .firsts-are NO-PATH (omega arith))
 
 route-at-requires : tie.Need-route-at-requires
@@ -51,57 +54,43 @@ route-at-requires c κs = search needs
 
 issue-of-requires : tie.Need-issue-of-requires
 issue-of-requires c κs =
-    let s = c .before .before .args .message .now in
-    let p = c .before .before .pre in
+    let s = c .before .before .before .args .message .now in
+    let p = c .before .before .before .pre in
     (p .short, λ z. subst (λ (at : ℕ). Stands s at 8) (sym (p .firsts-are NO-PATH (omega arith))) (no-path-stands s (p .right) (p .verdict) (sym (route-is c) ∙ z)))
 
-add-u32-at : tie.Need-add-u32-at
-add-u32-at c = let o = rp (c .before .before .before) in record { fits = omega (arith, o .long, o .inside, c .before .before .before .pre .short) }
+cast-t19 : tie.Need-cast-t19
+cast-t19 c = search needs
 
-u32-at-requires : tie.Need-u32-at-requires
-u32-at-requires c κs = let o = rp (c .before .before .before) in omega (arith, o .long, o .inside)
-
-add-u32-at-2 : tie.Need-add-u32-at-2
-add-u32-at-2 c = let o = rp (c .before .before .before .before) in record { fits = omega (arith, o .long, o .inside, c .before .before .before .before .pre .short) }
-
-u32-at-requires-2 : tie.Need-u32-at-requires-2
-u32-at-requires-2 c κs = let o = rp (c .before .before .before .before) in omega (arith, o .long, o .inside)
-
-cast-t23 : tie.Need-cast-t23
-cast-t23 c = search needs
-
-cast-t24 : tie.Need-cast-t24
-cast-t24 c = search needs
+cast-t20 : tie.Need-cast-t20
+cast-t20 c = search needs
 
 returns : tie.Need-returns
 returns c =
-    let st = c .before .before .before .before .before in
+    let st = c .before .before .before .before in
     let s = st .args .message .now in
     let p = st .pre in
-    let at = route-is (c .before .before .before) in
+    let at = route-is (c .before) in
     let np = p .firsts-are NO-PATH (omega arith) in
-    let issue = c .before .before .issue-of .ensures in
+    let issue = c .issue-of .ensures in
+    let request = c .before .before .rp-at .ensures in
     let found = ap (λ (r : ℕ). not (eqb r 0)) at ∙ found-is s in
     let nature = issue .nature ∙ ap₂ (λ (r n : ℕ). cond (eqb r 0) (getD s (n + 4) 0) 0) at np ∙ nature-is s in
     let flag = issue .c ∙ ap₂ (λ (r n : ℕ). eqb r 0 && leb 128 (getD s (n + 5) 0)) at np ∙ c-is s in
-    rw (found, nature, flag, c .before .u32-at .ensures, c .u32-at2 .ensures, p .firsts-are RP (omega arith), p .addresses-are, p .counted) refl
+    rw (found, nature, flag, request .0, request .1, p .firsts-are RP (omega arith), p .addresses-are, p .counted) refl
 
 pub fields-of-spec : {M : Type 1} → statement M
 fields-of-spec =
     tie.close
     (tie.spec
-    array-read-rp
-    cast-rp
+    array-read-rp-at
+    cast-rp-at
+    rp-at-requires
     array-read-no-path
     cast-no-path
     array-read-route-at
     cast-route-at
     route-at-requires
     issue-of-requires
-    add-u32-at
-    u32-at-requires
-    add-u32-at-2
-    u32-at-requires-2
-    cast-t23
-    cast-t24
+    cast-t19
+    cast-t20
     returns)

@@ -29,8 +29,8 @@ enum-known-parsed c = search needs
 enum-known-parsed-2 : tie.Need-enum-known-parsed-2
 enum-known-parsed-2 c = search needs
 
-limits-of-requires : tie.Need-limits-of-requires
-limits-of-requires c κs = search needs
+limits-carried-requires : tie.Need-limits-carried-requires
+limits-carried-requires c κs = search needs
 
 returns : tie.Need-returns
 returns c = subst (ParsedPcreqIs (c .before .before .before .before .before .args .message .now)) (c .before .parsed .given .1) (c .before .before .before .take-apart .ensures)
@@ -41,7 +41,7 @@ returns-2 c =
     let parts : PartsAre s (c .before .before .before .before .before .before .before .parsed2 .given .0 .0) = subst (ParsedPcreqIs s) (c .before .before .before .before .before .before .before .parsed2 .given .1) (c .before .before .before .before .before .before .before .before .before .take-apart .ensures) in
     record {
       verdict = parts .verdict;
-      request = λ profile. carried-request s _ parts _ (c .before .before .before .before .limits-of .ensures) profile _;
+      request = λ profile. carried-request s _ parts _ (c .before .before .before .before .limits-carried .ensures) profile _;
       include-inside = parts .fields .include-inside;
       exclude-inside = parts .fields .exclude-inside;
     }
@@ -53,6 +53,6 @@ carried-by-spec =
     take-apart-requires
     enum-known-parsed
     enum-known-parsed-2
-    limits-of-requires
+    limits-carried-requires
     returns
     returns-2)
