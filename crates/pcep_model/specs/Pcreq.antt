@@ -1,6 +1,6 @@
 -- The fields of a PCReq, the request that it carries, and the whole outcome of each call that takes one: document 02's request [3].
 use Prim.Native.Nat.{ℕ, _+_, _-_, _%_}
-use mathlib.Core.Bool.{not, cond}
+use mathlib.Core.Bool.{Bool, not, cond}
 use mathlib.Core.List.{List, [], _∷_}
 use lib.ListN.{length}
 use lib.Dec.{eqb}
@@ -101,8 +101,11 @@ numbersOfPcreq (Answer.Read f) =
 numbersOfPcreq (Answer.Refused r) = record { answer = r .number; others = r .place ∷ 0 ∷ 0 ∷ 0 ∷ 0 ∷ 0 ∷ 0 ∷ 0 ∷ 0 ∷ 0 ∷ 0 ∷ [] }
 
 -- 21 at place 0 for the BANDWIDTH, 21 at place 1 for any METRIC
+abbrev pub floatsBy : ℕ → Bool → Verdict
+floatsBy bandwidth wrong = refuseIf (outOfRange bandwidth) 21 0 andThen refuseIf wrong 21 1
+
 abbrev pub floatsVerdict : List ℕ → Verdict
-floatsVerdict s = refuseIf (outOfRange (bandwidthOf s)) 21 0 andThen refuseIf (not (eqb (wrongMetric s) 0)) 21 1
+floatsVerdict s = floatsBy (bandwidthOf s) (not (eqb (wrongMetric s) 0))
 
 unfoldable pub pcreqVerdict : List ℕ → ℕ → Verdict
 pcreqVerdict s room =

@@ -9,15 +9,15 @@ use borrow.Author.Tests.{ltb-false}
 use Rattle.model.specs.declared.Refusal.{Refusal}
 use Rattle.model.specs.declared.Verdict.{Verdict}
 use Rattle.model.specs.declared.Verdict.the-variants.{Pass, Refuse}
-use Rattle.model.specs.Verdict.{refuseIf, _andThen_}
+use Rattle.model.specs.Verdict.{_andThen_}
 use Rattle.model.specs.Request.{sizesVerdict, formsVerdict}
 use Rattle.model.specs.Calls.{roomVerdict}
 use Rattle.laws.proofs.Turns.{andThen-pass, refuseIf-pass}
 use Rattle.pcep_model.specs.declared.MessageKind.the-variants.{Pcreq}
 use Rattle.pcep_model.specs.declared.PcreqFields.{PcreqFields}
 use Rattle.pcep_model.specs.Objects.{messageVerdict}
-use Rattle.pcep_model.specs.Metrics.{metrics, outOfRange}
-use Rattle.pcep_model.specs.Pcreq.{floatsVerdict, listIn, includeExtent, excludeExtent, pcreqFields, pcreqVerdict}
+use Rattle.pcep_model.specs.Metrics.{metrics}
+use Rattle.pcep_model.specs.Pcreq.{floatsBy, floatsVerdict, listIn, includeExtent, excludeExtent, pcreqFields, pcreqVerdict}
 use Rattle.pcep_request_reader.specs.declared.fields.PcreqParts.{PcreqParts}
 use Rattle.pcep_request_reader.specs.ParsedPcreq.{PartsAre}
 use Rattle.pcep_request_reader.specs.Reading.{restVerdict, PassedPcreq}
@@ -30,11 +30,11 @@ module _ (s : List ℕ) (t : PcreqParts) (is : PartsAre s t) where
   pub lists-are : (test : List ℕ → List ℕ → Verdict) (a b : List ℕ) → a ≡ listIn s (t .fields .include) → b ≡ listIn s (t .fields .exclude) → test a b ≡ test (listIn s (includeExtent s)) (listIn s (excludeExtent s))
   lists-are test a b x y = ap₂ test (x ∙ ap (λ (f : PcreqFields). listIn s (f .include)) are) (y ∙ ap (λ (f : PcreqFields). listIn s (f .exclude)) are)
 
-  floats-are : refuseIf (outOfRange (t .fields .bandwidth)) 21 0 andThen refuseIf (t .wrong) 21 1 ≡ floatsVerdict s
-  floats-are = ap₂ (λ (f : PcreqFields) (w : Bool). refuseIf (outOfRange (f .bandwidth)) 21 0 andThen refuseIf w 21 1) are (is .wrong)
+  floats-are : floatsBy (t .fields .bandwidth) (t .wrong) ≡ floatsVerdict s
+  floats-are = ap₂ (λ (f : PcreqFields) (w : Bool). floatsBy (f .bandwidth) w) are (is .wrong)
 
   -- what was asked of the floats taken apart is asked of the message's
-  pub floats-told : (v w : Verdict) → v ≡ refuseIf (outOfRange (t .fields .bandwidth)) 21 0 andThen refuseIf (t .wrong) 21 1 → v ≡ w → floatsVerdict s ≡ w
+  pub floats-told : (v w : Verdict) → v ≡ floatsBy (t .fields .bandwidth) (t .wrong) → v ≡ w → floatsVerdict s ≡ w
   floats-told v w e q = sym floats-are ∙ sym e ∙ q
 
   module _ (room : ℕ) where

@@ -12,8 +12,7 @@ use request::checks::forms_verdict;
 use request::checks::sizes_verdict;
 ghost use mathlib.Core.Path.{_≡_};
 ghost use Rattle.model.specs.Calls.{roomVerdict};
-ghost use Rattle.model.specs.Verdict.{refuseIf, _andThen_};
-ghost use Rattle.pcep_model.specs.Metrics.{outOfRange};
+ghost use Rattle.pcep_model.specs.Pcreq.{floatsBy};
 ghost use Rattle.pcep_request_reader.specs.ParsedPcreq.{PartsAre};
 ghost use Rattle.pcep_request_reader.specs.Reading.{ReadBy, CheckedPcreqIs, restVerdict};
 
@@ -22,7 +21,7 @@ pub mod fields;
 
 // 21 for the bandwidth, then for some METRIC that is out of range.
 fn floats_verdict(bandwidth: u32, wrong: bool) -> Verdict
-    ensures { λ r. ⌜ r ≡ refuseIf (outOfRange bandwidth) 21 0 andThen refuseIf wrong 21 1 ⌝ }
+    ensures { λ r. ⌜ r ≡ floatsBy bandwidth wrong ⌝ }
 {
     if 0x7F800000 <= bandwidth {
         return refuse(21, 0);
