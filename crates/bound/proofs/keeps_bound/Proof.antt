@@ -1,5 +1,4 @@
 -- `bound::keeps_bound` meets its contract: at 64 bits the machine's comparison is that of exact values.
--- Assumes nothing.
 use mathlib.Core.Path.{sym, ap, _∙_}
 use mathlib.Core.Bool.{Bool, false}
 use borrow.Author.Tests.{not-true, not-false}

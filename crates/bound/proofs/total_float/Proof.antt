@@ -1,5 +1,4 @@
 -- `bound::total_float` meets its contract: the library's cast gives the nearest float, which is in range.
--- Assumes nothing.
 use mathlib.Core.Path.{ap, _∙_}
 use Rattle.model.specs.Floats.{floatOf, inRange}
 use Rattle.laws.proofs.NearestFloat.{float-nearest}

@@ -1,5 +1,4 @@
 -- `path_search::above` meets its contract, by how the given list starts.
--- Assumes nothing.
 use mathlib.Core.Path.{sym, ap, _∙_}
 use mathlib.Core.Option.{Option}
 use native.Mathlib.Nat.{zero-add}

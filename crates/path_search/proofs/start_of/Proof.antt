@@ -1,5 +1,4 @@
 -- `path_search::start_of` meets its contract: the first address, where there is one, against the source.
--- Assumes nothing.
 use native.Mathlib.Omega.{arith}
 use Rattle.path_search.proofs.Starts.{start-none, start-before, start-same, start-behind}
 use borrow.Author.Needs.{needs}

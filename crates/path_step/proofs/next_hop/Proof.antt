@@ -1,5 +1,4 @@
 -- `path_step::next_hop` meets its contract: the leg and the next place are those of the sequence (`Places`), and the first hop that is taken is the one promised (`Shortest`).
--- Assumes nothing.
 use mathlib.Core.Path.{_≡_, sym, subst, subst₂}
 use Prim.Native.Nat.{ℕ, suc, _+_}
 use native.Mathlib.Numerals.{add-one}

@@ -1,5 +1,4 @@
 -- `path_step::on_shortest` meets its contract: nothing is left behind the head, or the two sums of costs are compared.
--- Assumes nothing.
 use mathlib.Core.Path.{sym, ap}
 use native.Mathlib.Omega.{arith}
 use borrow.Author.Needs.{needs}

@@ -1,5 +1,4 @@
 -- `path_step::scan` meets its contract. The loop's invariant: the first of all that is taken is the first of those from i on. The measure is what is left of the range.
--- Assumes nothing.
 use mathlib.Core.Path.{_≡_, refl, sym, ap, _∙_}
 use mathlib.Core.Bool.{Bool}
 use mathlib.Core.List.{head?}

@@ -1,5 +1,4 @@
 -- `path_step::tried` meets its contract: the three tests of a hop record, in the code's order; the machine's comparison of the bandwidths is that of exact values.
--- Assumes nothing.
 use mathlib.Core.Path.{_≡_, refl, sym, ap, _∙_}
 use mathlib.Core.Bool.{Bool, true, false, true≢false}
 use Prim.Native.Nat.{ℕ}

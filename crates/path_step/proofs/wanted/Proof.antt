@@ -1,5 +1,4 @@
 -- `path_step::wanted` meets its contract: one case for each of the heads that can be wanted.
--- Assumes nothing.
 use mathlib.Core.Path.{sym, ap}
 use borrow.Author.Needs.{needs}
 use Rattle.path_step.specs.declared.Heads.{Heads}

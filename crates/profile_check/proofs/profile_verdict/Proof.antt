@@ -1,5 +1,4 @@
 -- `profile_check::profile_verdict` meets its contract: a header that passed says that every record lies in the file, and hop records that passed are in order.
--- Assumes nothing.
 use borrow.Author.Needs.{needs}
 use Rattle.profile_check.proofs.Passed.{passed-header}
 use Rattle.profile_records.specs.Layout.{layoutOf}

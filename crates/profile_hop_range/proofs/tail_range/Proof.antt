@@ -1,5 +1,4 @@
 -- `profile_hop_range::tail_range` meets its contract: of the pair's hop records those that leave the node are the ones whose keys are the pair's and the node's.
--- Assumes nothing.
 use borrow.Author.Needs.{needs}
 use native.Mathlib.Omega.{arith}
 use denote.Ref.{now}

@@ -1,5 +1,4 @@
 -- `profile_reserved::address_misplaced` meets its contract: the last three ranges of the table are those of addresses.
--- Assumes nothing.
 use borrow.Author.Needs.{needs}
 use Rattle.profile_reserved.proofs.Ranges.{by-class}
 use Rattle.model.specs.Reserved.{addressRanges}

@@ -1,5 +1,4 @@
 -- `profile_reserved::as_misplaced` meets its contract: the first two ranges of the table are those of AS numbers.
--- Assumes nothing.
 use borrow.Author.Needs.{needs}
 use Rattle.profile_reserved.proofs.Ranges.{by-class}
 use Rattle.model.specs.Reserved.{asRanges}

@@ -1,5 +1,4 @@
 -- `profile_reserved::lies_in` meets its contract. The loop's invariant: the ranges from `i` on decide. The measure is how many are left.
--- Assumes nothing.
 use Rattle.profile_reserved.proofs.Ranges.{hit, below-range, above-range, none-left}
 use Rattle.profile_reserved.specs.Table.{reserved}
 use Rattle.model.specs.Reserved.{inRanges}

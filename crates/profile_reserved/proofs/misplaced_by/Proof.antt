@@ -1,5 +1,4 @@
 -- `profile_reserved::misplaced_by` meets its contract: the test of the class picks the case.
--- Assumes nothing.
 use borrow.Author.Tests.{eq-eqb, ne-eqb}
 use Rattle.profile_reserved.proofs.misplaced_by.Statement.{statement}
 use Rattle.profile_reserved.proofs.misplaced_by.Tie as tie

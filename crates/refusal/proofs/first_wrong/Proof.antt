@@ -1,5 +1,4 @@
 -- `refusal::first_wrong` meets its contract: the tests that led to a return say which check refuses first.
--- Assumes nothing.
 use borrow.Author.Needs.{needs}
 use mathlib.Core.Path.{sym, _∙_}
 use Rattle.refusal.proofs.first_wrong.Statement.{statement}

@@ -1,6 +1,5 @@
 -- `tree_entries::fill` meets its contract: a walk of its MIR, by hand. The borrow is opened once, before the loop, and closed once, after it. In between the row of
 -- entries is the function's own: after i turns it is the first i entries of the tree over what was there. A turn calls `entry_of`, of which the proof knows only the contract.
--- Assumes nothing.
 use mathlib.Core.Path.{_≡_, refl, sym, _∙_, ap}
 use mathlib.Core.Bool.{Bool}
 use mathlib.Core.List.{[], _∷_, List}

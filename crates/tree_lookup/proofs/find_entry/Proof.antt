@@ -1,5 +1,4 @@
 -- `tree_lookup::find_entry` meets its contract. The loop's invariant: `Narrowed`, what is known after the looks so far. The measure is what is left of the part.
--- Assumes nothing.
 use Prim.Native.Nat.{_-_}
 use mathlib.Core.Path.{sym, _∙_}
 use native.Mathlib.Omega.{arith}

@@ -1,5 +1,4 @@
 -- `tree_reaches::best_from` meets its contract. The loop's invariant: the best so far is that of the records passed. The measure is what is left of the range.
--- Assumes nothing.
 use mathlib.Core.Path.{_≡_, refl, sym, ap, _∙_}
 use Prim.Native.Nat.{ℕ, _≤_, _<_, _-_}
 use native.Mathlib.Omega.{arith}

@@ -1,5 +1,4 @@
 -- `tree_reaches::reach_of` meets its contract: what stands beside the place that the look-up finds (`beside-found`), or nothing.
--- Assumes nothing.
 use mathlib.Core.Path.{_≡_, sym}
 use Prim.Native.Nat.{_≤_, _<_}
 use native.Mathlib.Omega.{arith}

@@ -1,5 +1,4 @@
 -- `tree_reaches::relax` meets its contract: each return is one case of the running minimum (`Codes`).
--- Assumes nothing.
 use native.Mathlib.Omega.{arith}
 use borrow.Author.Needs.{needs}
 use Rattle.tree_reaches.proofs.Codes.{cost-fits, relax-none, relax-less, relax-more}

@@ -1,5 +1,4 @@
 -- `tree_reaches::taken` meets its contract: the machine's comparison of the bandwidths is that of exact values, and then it is a step of the running minimum.
--- Assumes nothing.
 use mathlib.Core.Path.{_≡_, refl, sym, ap, _∙_}
 use mathlib.Core.Bool.{Bool, true, false}
 use Prim.Native.Nat.{ℕ}

@@ -1,5 +1,4 @@
 -- `tree_rounds::admissible` meets its contract, test by test.
--- Assumes nothing.
 use mathlib.Core.Path.{sym, ap, _∙_}
 use mathlib.Core.Bool.{Bool, not, _&&_}
 use borrow.Author.Tests.{eq-eqb, ne-eqb}

@@ -1,5 +1,4 @@
 -- `tree_step::allowed_at` meets its contract: each return is one of the three tests of an entry (`Entries`).
--- Assumes nothing.
 use mathlib.Core.Path.{sym, ap, _∙_}
 use mathlib.Core.Bool.{not}
 use borrow.Author.Needs.{needs}

@@ -1,5 +1,4 @@
 -- `tree_step::entry_reach` meets its contract: nothing where the entry isn't allowed, else the best of the hop records that leave it.
--- Assumes nothing.
 use mathlib.Core.Path.{refl, sym, ap, _∙_}
 use mathlib.Core.Bool.{Bool}
 use borrow.Author.Needs.{needs}

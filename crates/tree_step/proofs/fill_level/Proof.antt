@@ -1,5 +1,4 @@
 -- `tree_step::fill_level` meets its contract. The loop's invariant: the first j of the domain's entries are written, and nothing else. The measure is what is left.
--- Assumes nothing.
 use mathlib.Core.Path.{_≡_, sym, ap, subst, _∙_}
 use mathlib.Core.List.{List}
 use Prim.Native.Nat.{ℕ, _+_, _-_, _≤_, _<_}

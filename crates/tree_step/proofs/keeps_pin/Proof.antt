@@ -1,5 +1,4 @@
 -- `tree_step::keeps_pin` meets its contract: no entry constraint, or the node is compared with it.
--- Assumes nothing.
 use mathlib.Core.Path.{sym, ap}
 use mathlib.Core.Option.{Option}
 use Prim.Native.Nat.{ℕ}

@@ -1,5 +1,4 @@
 -- `tree_vspt::fill_before` meets its contract, by recursion on how many places are left: with none all stands, else one place is filled from what stands behind it.
--- Assumes nothing.
 use mathlib.Core.Path.{_≡_, sym, ap, subst, _∙_}
 use Prim.Native.Nat.{ℕ, suc, _-_, _<_}
 use native.Mathlib.Omega.{arith}

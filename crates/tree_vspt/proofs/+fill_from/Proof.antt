@@ -1,5 +1,4 @@
 -- `tree_vspt::fill_from` meets its contract, by recursion on how many domains are left: the last place is the destination's, and each other is one step before those written.
--- Assumes nothing.
 use mathlib.Core.Path.{_≡_, ap, _∙_}
 use Prim.Native.Nat.{suc, _+_, _-_}
 use native.Mathlib.Numerals.{add-one}

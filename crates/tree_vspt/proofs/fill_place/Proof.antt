@@ -1,5 +1,4 @@
 -- `tree_vspt::fill_place` meets its contract: the leg made of the query's fields stands for the place, and its step gives the place's numbers.
--- Assumes nothing.
 use Rattle.profile_records.specs.Layout.{layoutOf}
 use Rattle.tree_vspt.proofs.Filling.{in-order, next-place, placed}
 use borrow.Author.Needs.{needs}

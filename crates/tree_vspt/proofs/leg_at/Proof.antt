@@ -1,5 +1,4 @@
 -- `tree_vspt::leg_at` meets its contract: each field is read where the place has it (`Sequences`), and the domain's record lies in the file.
--- Assumes nothing.
 use mathlib.Core.Path.{_≡_, refl, ap, _∙_}
 use native.Mathlib.Numerals.{add-one}
 use native.Mathlib.Omega.{arith}

@@ -1,5 +1,4 @@
 -- `wire::put_u16` meets its contract: its two stores put the bytes of the number in their place.
--- Assumes nothing.
 use borrow.Author.Needs.{needs}
 use Rattle.wire.proofs.Put.{put-two}
 use lib.ListN.{length-set}

@@ -1,5 +1,4 @@
 -- `wire::put_u32` meets its contract: its four stores put the bytes of the number in their place.
--- Assumes nothing.
 use borrow.Author.Needs.{needs}
 use Rattle.wire.proofs.Put.{put-four}
 use lib.ListN.{length-set}

@@ -1,5 +1,4 @@
 -- `wire::u32_at` meets its contract: the four bytes written out are the number, and each byte is below 256, so nothing wraps.
--- Assumes nothing.
 use borrow.Author.Needs.{needs}
 use Prim.Native.Nat.{_+_}
 use mathlib.Core.Path.{sym}

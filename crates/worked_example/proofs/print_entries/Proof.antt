@@ -1,5 +1,4 @@
 -- `worked_example::print_entries` is safe and ends: an entry's index is below 5, the array's length, and the measure is how many are left up to 5.
--- Assumes nothing.
 use Prim.Native.Nat.{_-_}
 use borrow.Author.Needs.{needs}
 use native.Mathlib.Omega.{arith}

@@ -1,5 +1,4 @@
 -- `worked_example::show_paths` is safe and ends: the measure is the number of turns that are left.
--- Assumes nothing.
 use borrow.Author.Needs.{needs}
 use native.Mathlib.Omega.{arith}
 use Rattle.worked_example.proofs.show_paths.Statement.{statement}

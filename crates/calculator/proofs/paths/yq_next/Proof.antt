@@ -1,5 +1,4 @@
 -- `calculator::paths::yq_next` meets its contract: what is asked is told by its numbers, and the answer is told.
--- Assumes nothing.
 use lib.ListN.{length}
 use Rattle.model.specs.Calls as Calls
 use Rattle.request.specs.declared.Asked.{Asked}

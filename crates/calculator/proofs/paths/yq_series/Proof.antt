@@ -1,5 +1,4 @@
 -- `calculator::paths::yq_series` meets its contract: what is asked is told by its numbers, and the run's answer is told by its number.
--- Assumes nothing.
 use mathlib.Core.Path.{sym}
 use Rattle.request.specs.declared.Asked.{Asked}
 use Rattle.request.specs.CheckedRequest.{requestFor}

@@ -1,6 +1,5 @@
 -- `list_include::state::name_found` meets its contract: each arm is a case of `nameFound`.
 use mathlib.Core.Path.{sym, ap, subst}
-use Rattle.model.specs.Sequence as M
 use Rattle.list_include.specs.declared.named_domains.NamedDomain.{NamedDomain}
 use Rattle.list_include.specs.Reading.{stateOf, ReadStepIs, nameFound}
 use Rattle.list_include.proofs.States.{step-refused}

@@ -1,5 +1,4 @@
 -- `path_answers::numbers::tell` meets its contract: the answer's five numbers, the first told and the others stored.
--- Assumes nothing.
 use Rattle.path_answers.proofs.Answers.{told}
 use borrow.Author.Needs.{needs}
 use Rattle.path_answers.proofs.numbers.tell.Statement.{statement}

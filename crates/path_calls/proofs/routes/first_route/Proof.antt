@@ -1,6 +1,6 @@
 -- `path_calls::routes::first_route` meets its contract, check by check in document 01's order.
 use mathlib.Core.Path.{sym, subst, _∙_}
-use Prim.Native.Nat.{ℕ, suc, _≤_}
+use Prim.Native.Nat.{ℕ, suc}
 use native.Mathlib.Omega.{arith}
 use Rattle.model.specs.Calls.{Outcome}
 use Rattle.path_answers.specs.PathReply.{ReplyIs}

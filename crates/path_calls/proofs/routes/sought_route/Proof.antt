@@ -1,5 +1,4 @@
 -- `path_calls::routes::sought_route` meets its contract: the search is that of the layout that the profile says.
--- Assumes nothing.
 use mathlib.Core.Path.{sym, subst}
 use native.Mathlib.Omega.{arith}
 use Rattle.model.specs.declared.Round.{Round}

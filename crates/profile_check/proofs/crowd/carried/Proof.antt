@@ -1,5 +1,4 @@
 -- `profile_check::crowd::carried` meets its contract: the test says whether the pair is the same.
--- Assumes nothing.
 use Rattle.profile_check.proofs.crowd.carried.Statement.{statement}
 use Rattle.profile_check.proofs.crowd.carried.Tie as tie
 

@@ -1,6 +1,5 @@
 -- `profile_check::crowd::crowded_verdict` meets its contract. The loop's invariant: the records from `i` on decide, and what is noted are the entry nodes of the current pair
 -- (`Passing`). The measure is how many records are left.
--- Assumes nothing.
 use borrow.Author.Needs.{needs}
 use Rattle.profile_check.proofs.CrowdStep.{Turn, carried-few, same-passes, same-goes-on, seventeenth, few-pass, few-go-on}
 use Rattle.profile_check.proofs.Crowding.{Passing, passing-start}

@@ -1,5 +1,4 @@
 -- `profile_check::crowd::is_noted` meets its contract. The loop's invariant: what is found so far is the answer for the first `j`. The measure is how many are left.
--- Assumes nothing.
 use Rattle.profile_check.proofs.Scan.{found-next}
 use Rattle.model.specs.Lists.{any, among}
 use lib.Seq.{take-all}

@@ -1,5 +1,4 @@
 -- `profile_check::crowd::note` meets its contract: whether anything is noted, whether the node is, and whether there is room pick one of four ways.
--- Assumes nothing.
 use borrow.Author.Needs.{needs}
 use Rattle.profile_check.proofs.Padding.{note-first, note-held, note-full, note-new}
 use denote.Ref.{now}

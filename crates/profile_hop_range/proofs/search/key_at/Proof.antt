@@ -1,5 +1,4 @@
 -- `profile_hop_range::search::key_at` meets its contract: the two words are the parts of the key, and their number fits.
--- Assumes nothing.
 use borrow.Author.Needs.{needs}
 use denote.Ref.{now}
 use Rattle.profile_records.specs.Layout.{layoutOf}

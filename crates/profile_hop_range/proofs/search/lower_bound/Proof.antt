@@ -1,5 +1,4 @@
 -- `profile_hop_range::search::lower_bound` meets its contract. The loop's invariant: `low` and `high` bracket the place looked for. The measure is how far they are apart.
--- Assumes nothing.
 use Prim.Native.Nat.{ℕ, _+_, _-_, _/_}
 use native.Mathlib.Omega.{arith}
 use denote.Ref.{now}

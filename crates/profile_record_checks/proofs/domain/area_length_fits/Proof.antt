@@ -1,5 +1,4 @@
 -- `profile_record_checks::domain::area_length_fits` meets its contract: the kinds in turn are the lines of the table of rules.
--- Assumes nothing.
 use Rattle.profile_record_checks.proofs.Areas.{fits}
 use Rattle.profile_record_checks.proofs.domain.area_length_fits.Statement.{statement}
 use Rattle.profile_record_checks.proofs.domain.area_length_fits.Tie as tie

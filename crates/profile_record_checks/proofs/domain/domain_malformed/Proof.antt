@@ -1,5 +1,4 @@
 -- `profile_record_checks::domain::domain_malformed` meets its contract: the tests are the definition's.
--- Assumes nothing.
 use borrow.Author.Needs.{needs}
 use Rattle.model.specs.Profile.{domainMalformed}
 use Rattle.profile_record_checks.proofs.domain.domain_malformed.Statement.{statement}

@@ -1,5 +1,4 @@
 -- `profile_record_checks::domain::domain_verdict` meets its contract: the three tests are the definition's.
--- Assumes nothing.
 use borrow.Author.Needs.{needs}
 use Rattle.model.specs.Profile.{domainVerdict}
 use Rattle.profile_record_checks.proofs.domain.domain_verdict.Statement.{statement}

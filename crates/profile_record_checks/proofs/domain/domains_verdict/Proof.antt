@@ -1,5 +1,4 @@
 -- `profile_record_checks::domain::domains_verdict` meets its contract. The loop's invariant: the records from `i` on decide. The measure is how many are left.
--- Assumes nothing.
 use borrow.Author.Needs.{needs}
 use Rattle.model.specs.Profile.{domainVerdict}
 use Rattle.profile_record_checks.proofs.Turned.{Turned, start, passed, refused, ended}

@@ -1,5 +1,4 @@
 -- `profile_record_checks::domain::zero_after` meets its contract. The loop's invariant: what is left from `j` on decides. The measure is what is left of 13.
--- Assumes nothing.
 use Rattle.profile_record_checks.proofs.Areas.{zero-byte, other-byte, no-byte}
 use Rattle.model.specs.Bytes.{allZero}
 use lib.ListN.{drop}

@@ -1,5 +1,4 @@
 -- `profile_record_checks::header::counts_wrong` meets its contract: the tests are the definition's.
--- Assumes nothing.
 use borrow.Author.Needs.{needs}
 use Rattle.model.specs.Profile.{countsWrong}
 use Rattle.profile_record_checks.proofs.header.counts_wrong.Statement.{statement}

@@ -1,5 +1,4 @@
 -- `profile_record_checks::header::header_verdict` meets its contract: a file that has a header is judged by its other three tests.
--- Assumes nothing.
 use borrow.Author.Needs.{needs}
 use Rattle.model.specs.Profile.{headerVerdict}
 use borrow.Author.Tests.{lt-ltb, le-ltb}

@@ -1,5 +1,4 @@
 -- `profile_record_checks::header::header_wrong` meets its contract: the mark is the high part of a word, and the tests are the definition's.
--- Assumes nothing.
 use borrow.Author.Needs.{needs}
 use Rattle.profile_records.proofs.Fields.{high-field}
 use Rattle.model.specs.Profile.{headerWrong}

@@ -1,5 +1,4 @@
 -- `profile_record_checks::header::length_wrong` meets its contract: a short record's size times a u16 fits.
--- Assumes nothing.
 use borrow.Author.Needs.{needs}
 use Rattle.model.specs.Profile.{lengthWrong}
 use Prim.Native.Nat.{_≤_}

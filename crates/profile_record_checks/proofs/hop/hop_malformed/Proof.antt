@@ -1,5 +1,4 @@
 -- `profile_record_checks::hop::hop_malformed` meets its contract: the two domains are the parts of a word, and the tests are the definition's.
--- Assumes nothing.
 use borrow.Author.Needs.{needs}
 use Rattle.model.specs.Profile.{hopAt, hopMalformed}
 use Rattle.laws.proofs.BigEndian.{Bytes}

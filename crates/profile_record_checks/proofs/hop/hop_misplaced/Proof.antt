@@ -1,5 +1,4 @@
 -- `profile_record_checks::hop::hop_misplaced` meets its contract: the two nodes are read where the definition reads them.
--- Assumes nothing.
 use borrow.Author.Needs.{needs}
 use Rattle.model.specs.Profile.{hopAt}
 use Rattle.profile_record_checks.proofs.hop.hop_misplaced.Statement.{statement}

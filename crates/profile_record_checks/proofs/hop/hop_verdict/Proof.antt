@@ -1,5 +1,4 @@
 -- `profile_record_checks::hop::hop_verdict` meets its contract: the three tests are the definition's.
--- Assumes nothing.
 use borrow.Author.Needs.{needs}
 use mathlib.Core.Path.{sym}
 use Rattle.model.specs.Profile.{hopVerdict}

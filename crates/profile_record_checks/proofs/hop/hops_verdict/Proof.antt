@@ -1,5 +1,4 @@
 -- `profile_record_checks::hop::hops_verdict` meets its contract. The loop's invariant: the records from `i` on decide. The measure is how many are left.
--- Assumes nothing.
 use borrow.Author.Needs.{needs}
 use Rattle.profile_records.proofs.Fields.{hop-within}
 use Rattle.profile_records.specs.Layout.{layoutOf}

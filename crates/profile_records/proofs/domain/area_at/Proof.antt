@@ -1,5 +1,4 @@
 -- `profile_records::domain::area_at` meets its contract. The loop's invariant: the first `j` bytes are copied, the others still zero. The measure is what is left of 13.
--- Assumes nothing.
 use Rattle.profile_records.proofs.Areas.{copied, copied-whole}
 use lib.ListN.{length, take, drop}
 use denote.Ref.{now}

@@ -1,5 +1,4 @@
 -- `profile_records::domain::domain_at` meets its contract: each field is read where the definition reads it.
--- Assumes nothing.
 use borrow.Author.Needs.{needs}
 use Rattle.model.specs.Profile.{domainAt}
 use Rattle.profile_records.proofs.domain.domain_at.Statement.{statement}

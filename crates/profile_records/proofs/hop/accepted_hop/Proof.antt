@@ -1,5 +1,4 @@
 -- `profile_records::hop::accepted_hop` meets its contract: what an accepted profile says of its hop record i.
--- Assumes nothing.
 use Rattle.profile_records.specs.Layout.{layoutOf}
 use Rattle.profile_records.proofs.AcceptedHops.{hop-inside, hop-numeric, right-hop}
 use Rattle.profile_records.proofs.hop.accepted_hop.Statement.{statement}

@@ -1,5 +1,4 @@
 -- `profile_records::hop::hop_at` meets its contract: each field is read where the definition reads it, and bits below 7F800000 are no NaN's.
--- Assumes nothing.
 use borrow.Author.Needs.{needs}
 use Rattle.profile_records.proofs.Fields.{no-nan}
 use Rattle.model.specs.Profile.{hopAt}

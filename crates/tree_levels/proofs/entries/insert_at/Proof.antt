@@ -1,5 +1,4 @@
 -- `tree_levels::entries::insert_at` meets its contract: where the node was sought it is found, or put in.
--- Assumes nothing.
 use borrow.Author.Needs.{needs}
 use Prim.Native.Nat.{_<_}
 use native.Mathlib.Omega.{arith}

@@ -1,5 +1,4 @@
 -- `tree_levels::entries::is_at` meets its contract: past the end there is nothing.
--- Assumes nothing.
 use borrow.Author.Needs.{needs}
 use borrow.Author.Tests.{lt-ltb, le-ltb}
 use Rattle.tree_levels.proofs.entries.is_at.Statement.{statement}

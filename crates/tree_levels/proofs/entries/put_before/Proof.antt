@@ -1,6 +1,5 @@
 -- `tree_levels::entries::put_before` meets its contract. The loop's invariant: of the node and the cells after it as many as were passed are copied, and the next is at hand.
 -- The measure is how many cells are left.
--- Assumes nothing.
 use Prim.Native.Nat.{ℕ, suc, _-_, _≤_, _<_}
 use native.Mathlib.Omega.{arith}
 use native.Mathlib.Nat.{sub-self}

@@ -1,5 +1,4 @@
 -- `tree_levels::entries::seek` meets its contract. The loop's invariant: the cells passed are below the node. The measure is how many cells are left.
--- Assumes nothing.
 use Prim.Native.Nat.{ℕ, _+_, _-_, _≤_, _<_}
 use native.Mathlib.Omega.{arith}
 use native.Mathlib.Nat.{eq-or-lt-of-le}

@@ -1,6 +1,5 @@
 -- `tree_levels::heads::collect` meets its contract. The loop's invariant: the cells from `from` up to `end` hold the different heads of the records passed. The measure is how
 -- many records are left.
--- Assumes nothing.
 use Prim.Native.Nat.{ℕ, _+_, _-_, _≤_, _<_}
 use native.Mathlib.Omega.{arith}
 use mathlib.Core.Path.{_≡_, ap, sym, subst, _∙_}

@@ -1,5 +1,4 @@
 -- `wire::order::record_below` meets its contract. The loop's invariant: the words passed are the same, so what is left decides. The measure is the number of words left.
--- Assumes nothing.
 use native.Mathlib.Nat.{add-zero, add-assoc}
 use denote.Ref.{now}
 use Rattle.wire.proofs.Words.{word-less, word-greater, word-same, nothing-left}
