@@ -26,7 +26,7 @@ use Rattle.path_answers.specs.SearchResult.{ResultPath}
 use Rattle.path_answers.specs.PathReply.{noneAnswer, noneNumber, ReplyIs}
 
 -- no path is found in a refusal, or in the answer that there is none
-not-found : (r : Refusal) (total : ℕ) (x : Float) (round : Round) → Refused r ≡ Found total x round → ⊥
+pub not-found : (r : Refusal) (total : ℕ) (x : Float) (round : Round) → Refused r ≡ Found total x round → ⊥
 not-found r total x round e = let z : _≡_ {A = ℕ} 0 1 = cc in omega arith
 
 none-not-found : (again : Bool) (total : ℕ) (x : Float) (round : Round) → noneAnswer again ≡ Found total x round → ⊥

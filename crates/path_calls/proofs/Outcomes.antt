@@ -1,12 +1,12 @@
 -- The outcomes of first and next for a request as it was checked: refused, 33, 34, or the first of the shortest paths above the given list. From what the checks say.
-use mathlib.Core.Path.{_≡_, refl, sym, ap, _∙_}
-use mathlib.Core.Bool.{Bool, true, false, not}
+use mathlib.Core.Path.{_≡_, sym, ap, _∙_}
+use mathlib.Core.Bool.{not}
 use mathlib.Core.List.{List, []}
 use Prim.Native.Nat.{ℕ, suc, _≤_}
 use native.Mathlib.Omega.{arith}
 use lib.Dec.{eqb, ltb}
 use lib.ListN.{length}
-use borrow.Author.Tests.{ltb-false, eqb-true}
+use borrow.Author.Tests.{not-false, ltb-false, eqb-true}
 use Rattle.model.specs.declared.Refusal.{Refusal}
 use Rattle.model.specs.declared.Round.{Round}
 use Rattle.model.specs.declared.Verdict.{Verdict}
@@ -44,14 +44,10 @@ all-above-nothing S =
 pub room-there : (long room : ℕ) → roomVerdict long room ≡ Pass → long ≤ room
 room-there long room e = omega (arith, ltb-false room long (refuseIf-pass (ltb room long) 34 0 .0 e))
 
-holds : (b : Bool) → not b ≡ false → b ≡ true
-holds true e = refl
-holds false e = sym e
-
 pub given-fits : (given long room : ℕ) → givenVerdict given long room ≡ Pass → (given ≡ long) × (long ≤ room)
 given-fits given long room e =
     let both = andThen-pass (refuseIf (not (eqb given long)) 33 0) (roomVerdict long room) .0 e in
-    (eqb-true given long (holds (eqb given long) (refuseIf-pass (not (eqb given long)) 33 0 .0 (both .0))), room-there long room (both .1))
+    (eqb-true given long (not-false (eqb given long) (refuseIf-pass (not (eqb given long)) 33 0 .0 (both .0))), room-there long room (both .1))
 
 module _ (P : List ℕ) (asked : Asked) (I E : List ℕ) (r : CheckedRequest) (is : RequestIs P asked I E r) where
   abbrev req : Request

@@ -2,9 +2,6 @@
 use Prim.Native.Nat.{ℕ}
 use mathlib.Core.Path.{_≡_, refl, sym, ap, subst}
 use mathlib.Core.List.{List}
-use lib.Ieee.{Float}
-use native.Mathlib.Omega.{arith}
-use Rattle.model.specs.declared.Round.{Round}
 use Rattle.model.specs.declared.PathAnswer.the-variants as Path
 use Rattle.model.specs.declared.Refusal.{Refusal}
 use Rattle.model.specs.declared.TreeAnswer.the-variants as Tree
@@ -14,6 +11,7 @@ use Rattle.model.specs.declared.Verdict.the-variants.{Pass, Refuse}
 use Rattle.model.specs.Calls.{Outcome}
 use Rattle.laws.proofs.Lists.{over-nothing}
 use Rattle.request.specs.CheckedRequest.{requestFor}
+use Rattle.path_answers.proofs.Answers.{not-found}
 use Rattle.tree_fields.specs.TreeResult.{TreeIn}
 use Rattle.pcep_model.specs.Pcreq.{listIn, carried, behind}
 use Rattle.pcep_request_reader.specs.declared.carried.CarriedRequest.{CarriedRequest}
@@ -26,10 +24,6 @@ module _ {A : Type 0} where
 
   pub behind-passed : (v : Verdict) (o : Outcome A) → v ≡ Pass → behind v o ≡ o
   behind-passed v o e = ap (λ (w : Verdict). behind w o) e
-
--- no path is found in a refusal
-not-found : (r : Refusal) (total : ℕ) (x : Float) (round : Round) → Path.Refused r ≡ Path.Found total x round → ⊥
-not-found r total x round e = let z : _≡_ {A = ℕ} 0 1 = cc in omega arith
 
 pub path-refused : (v : Verdict) (o : Outcome ℕ) (path : List ℕ) (x : Refusal) → v ≡ Refuse x → PathIn (behind v o) path (Path.Refused x) path
 path-refused v o path x e =
