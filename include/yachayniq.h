@@ -57,19 +57,28 @@ uint32_t yq_check_profile(const uint8_t *profile, size_t profile_count,
 
 /*
  * Reads an include list (the body of an IRO, RFC 7897): the domains to cross,
- * in order, and the node through which a domain is to be entered.
+ * in order, the node through which a domain is to be entered, and what is
+ * excluded for a domain alone, its EXRS (RFC 5521).
  *
  *   ingress  the domain that the list starts in, as an index into the profile's
  *            domain records, from 0
  *   include  the list's bytes; a list of none leaves the ingress domain alone
  *
- * The three lent buffers have an element for each domain of the sequence, so 16
+ * Four lent buffers have an element for each domain of the sequence, so 16
  * elements each are always enough; their counts may differ:
  *
- *   domains  the domain's index; domains[0] is the ingress domain
- *   pinned   1 where the list has an entry constraint for the domain, else 0
- *   pins     the node that the domain is to be entered through, as a number
- *            (192.0.2.1 is 0xC0000201), else 0
+ *   domains      the domain's index; domains[0] is the ingress domain
+ *   pinned       1 where the list has an entry constraint for the domain, else 0
+ *   pins         the node that the domain is to be entered through, as a number
+ *                (192.0.2.1 is 0xC0000201), else 0
+ *   exrs_counts  how many bytes of EXRS the list has for the domain, 0 or more;
+ *                exrs_counts[0] is 0
+ *
+ * The fifth has a byte for each of these, so 1,024 are always enough:
+ *
+ *   exrs         the EXRS of all domains, domain by domain in the order of the
+ *                sequence, for each domain in the order of the list, back to
+ *                back, byte for byte as they stand there
  *
  * Returns the first of these, in the order in which the checks are made:
  *
@@ -78,28 +87,37 @@ uint32_t yq_check_profile(const uint8_t *profile, size_t profile_count,
  *    22  list over 1,024 bytes
  *  then the form of each subobject in turn
  *    23  under 4 bytes left
- *    24  type not 1 (IPv4), 5 or 32 (AS), 6 (OSPF area) or 7 (IS-IS area)
+ *    24  type not 1 (IPv4), 5 or 32 (AS), 6 (OSPF area), 7 (IS-IS area) or 33
+ *        (EXRS)
  *    27  top bit (L) set
  *    26  area length of type 7 not 1 to 13
- *    25  length not the type's
+ *    25  length not the type's; of an EXRS under 4
  *    23  length past the list's end
- *    26  prefix length of type 1 not 32, or padding of type 7 not zero
+ *    26  prefix length of type 1 not 32, padding of type 7 not zero, or nothing
+ *        inside an EXRS
+ *    23 to 26  inside an EXRS, up to its end, each subobject in turn: as in an
+ *        exclude list (yq_tree), so another EXRS is 24
  *  then the meaning of each subobject in turn
  *    28  no such domain in the profile
  *    29  AS with no area after it, where several domains have that AS
  *    30  a domain of the sequence that was left comes back
  *    31  a seventeenth domain
  *    32  an entry constraint while one waits for its domain
+ *  then, of what still waits for a domain, the first in the list
+ *    32  an entry constraint
+ *    42  an EXRS
  *  then
- *    32  an entry constraint that still waits
- *    34  a buffer has fewer elements than the sequence has domains
+ *    34  a buffer has fewer elements than the sequence has domains, or exrs
+ *        fewer than all its EXRS have bytes
  *  else
- *     0  the sequence is in the buffers; a refusal leaves all three untouched
+ *     0  the sequence is in the buffers; a refusal leaves all five untouched
  *
  * numbers[0]  place: from 10 to 19 as yq_check_profile stores it; from 23 to 32
- *             the offset in the list of the subobject that is refused, of an AS
- *             with its area that of the area; else 0
+ *             and on 42 the offset in the list of the subobject that is refused,
+ *             of an AS with its area that of the area, inside an EXRS that of
+ *             the subobject inside; else 0
  * numbers[1]  on 0 how many domains the sequence has, 1 to 16; else 0
+ * numbers[2]  on 0 how many bytes all its EXRS have; else 0
  */
 uint32_t yq_read_include(const uint8_t *profile, size_t profile_count,
                          uint16_t ingress,
@@ -107,28 +125,41 @@ uint32_t yq_read_include(const uint8_t *profile, size_t profile_count,
                          uint16_t *domains, size_t domains_count,
                          uint8_t *pinned, size_t pinned_count,
                          uint32_t *pins, size_t pins_count,
-                         uint32_t numbers[2]);
+                         uint32_t *exrs_counts, size_t exrs_counts_count,
+                         uint8_t *exrs, size_t exrs_count,
+                         uint32_t numbers[3]);
 
 /*
  * Writes a sequence of domains as an include list, which yq_read_include reads
  * back as the same sequence when domains[0] is the ingress.
  *
- * The three input lists have an element for each domain, in order:
+ * Four input lists have an element for each domain, in order:
  *
- *   domains  the domain, as an index into the profile's domain records, from 0
- *   pinned   1 where the domain has an entry constraint, else 0
- *   pins     the node that the domain is to be entered through, as a number
- *            (192.0.2.1 is 0xC0000201); not looked at where `pinned` is 0
+ *   domains      the domain, as an index into the profile's domain records,
+ *                from 0
+ *   pinned       1 where the domain has an entry constraint, else 0
+ *   pins         the node that the domain is to be entered through, as a number
+ *                (192.0.2.1 is 0xC0000201); not looked at where `pinned` is 0
+ *   exrs_counts  how many of the bytes in exrs are the domain's
  *
- * The list is written to the start of `out`. It has at most 576 bytes.
+ * The fifth has the bytes:
+ *
+ *   exrs         the EXRS of all domains, as yq_read_include stores them: each
+ *                domain's are whole EXRS, and they are written byte for byte
+ *
+ * The list is written to the start of `out`. Without EXRS it has at most 576
+ * bytes, with any at most 1,024.
  *
  * Returns the first of these, in the order in which the checks are made:
  *
  *    10 to 19  what yq_check_profile finds wrong with the profile
  *    35  not a sequence that can be written: no domain, or over 16; counts of
- *        the three lists that differ; an index not below the profile's domain
- *        count; a domain twice; a `pinned` over 1; an entry constraint on the
- *        first domain
+ *        the four lists that differ; an index not below the profile's domain
+ *        count; a domain twice; a `pinned` over 1; an entry constraint or an
+ *        EXRS on the first domain; exrs_counts that don't add up to the count
+ *        of exrs; bytes of a domain that aren't whole EXRS (type 33, top bit
+ *        clear) of right form, as yq_read_include judges it; a list over 1,024
+ *        bytes
  *    34  out has fewer bytes than the list
  *     0  the list is in out; a refusal leaves out untouched
  *
@@ -139,6 +170,8 @@ uint32_t yq_write_list(const uint8_t *profile, size_t profile_count,
                        const uint16_t *domains, size_t domains_count,
                        const uint8_t *pinned, size_t pinned_count,
                        const uint32_t *pins, size_t pins_count,
+                       const uint32_t *exrs_counts, size_t exrs_counts_count,
+                       const uint8_t *exrs, size_t exrs_count,
                        uint8_t *out, size_t out_count,
                        uint32_t numbers[2]);
 
@@ -148,11 +181,16 @@ uint32_t yq_write_list(const uint8_t *profile, size_t profile_count,
  * destination can be reached from it, and the least cost of doing so. The
  * bound isn't applied to its entries.
  *
- * An exclusion whose top bit (X) is set is only desired (RFC 5521). In a first
- * round all exclusions count. If no path keeps the bound then, and some
- * exclusion has X set, a second round applies, in which only those with X clear
- * count, whether or not it finds a path. yq_tree, yq_first, yq_next and
- * yq_series answer by the round that applies, and an answer 0 names it.
+ * What an EXRS of the include list excludes counts for the next new domain
+ * alone: a node as its entry node, an AS or an area as that domain. What the
+ * exclude list excludes counts for every node and domain.
+ *
+ * An exclusion whose top bit (X) is set is only desired (RFC 5521), in the
+ * exclude list and inside an EXRS. In a first round all exclusions count. If no
+ * path keeps the bound then, and some exclusion has X set, a second round
+ * applies, in which only those with X clear count, whether or not it finds a
+ * path. yq_tree, yq_first, yq_next and yq_series answer by the round that
+ * applies, and an answer 0 names it.
  *
  *   profile         a profile file, as yq_check_profile takes it
  *   ingress         the domain that the sequence starts in, as an index into
@@ -186,16 +224,17 @@ uint32_t yq_write_list(const uint8_t *profile, size_t profile_count,
  *    22  include list, then exclude list, over 1,024 bytes
  *    23 to 27  form of the include list, as yq_read_include finds it
  *    23 to 26  form of the exclude list: the same, but its top bit (X) may be
- *        set, and a type 1 has a prefix length of 0 to 32 and the attribute 1
- *        (else 26)
+ *        set, a type 1 has a prefix length of 0 to 32 and the attribute 1 (else
+ *        26), and an EXRS is 24
  *    28 to 32  meaning of the include list, as yq_read_include finds it
+ *    42  likewise: an EXRS with no new domain after it
  *    34  a buffer has fewer elements than the tree has entries
  *     0  the tree is in the buffers; a refusal leaves all four untouched
  *
  * numbers[0]  place: from 10 to 19 as yq_check_profile stores it; on 21 0 for
  *             the bandwidth and 1 for the bound; on 22 0 for the include list
- *             and 1 for the exclude list; from 23 to 32 the offset in the list
- *             of the subobject that is refused; else 0
+ *             and 1 for the exclude list; from 23 to 32 and on 42 the offset in
+ *             the list of the subobject that is refused; else 0
  * numbers[1]  on 0 how many entries the tree has, 1 to 241; else 0
  * numbers[2]  on 0 how many hop records lead from each domain of the sequence
  *             to the next, and inside the last one, twice that in the second
@@ -225,6 +264,7 @@ uint32_t yq_tree(const uint8_t *profile, size_t profile_count,
  * Returns the first of these, in the order in which the checks are made:
  *
  *    10 to 32  what yq_tree finds wrong with the request
+ *    42  likewise: an EXRS with no new domain after it
  *    34  path has fewer elements than a path has addresses
  *     1  no path keeps the bound, in either round
  *     0  the path is at the start of the buffer; the rest of it is untouched
@@ -260,6 +300,7 @@ uint32_t yq_first(const uint8_t *profile, size_t profile_count,
  * Returns the first of these, in the order in which the checks are made:
  *
  *    10 to 32  what yq_tree finds wrong with the request
+ *    42  likewise: an EXRS with no new domain after it
  *    33  given has more or fewer elements than a path has addresses
  *    34  path has fewer elements than a path has addresses
  *     2  no shortest path is greater than the list
@@ -302,6 +343,7 @@ uint32_t yq_next(const uint8_t *profile, size_t profile_count,
  * A call's answer is the first of these:
  *
  *    10 to 32  what yq_tree finds wrong with the request, in each call alike
+ *    42  likewise: an EXRS with no new domain after it
  *    33  next: no path was handed out yet
  *    34  its buffer has less room than a path needs
  *     1  first: there is no path
@@ -409,6 +451,7 @@ uint32_t yq_read_pcreq(const uint8_t *message, size_t message_count,
  *    10 to 20  what yq_tree finds wrong with the profile and the ingress
  *    21  bits of the bandwidth, then of any METRIC, from 7F800000 up
  *    22 to 32  what yq_tree finds wrong with the two lists
+ *    42  likewise: an EXRS with no new domain after it
  *    34  a buffer has fewer elements than the tree has entries
  *     0  the tree is in the buffers; a refusal leaves all four untouched
  *
@@ -433,6 +476,7 @@ uint32_t yq_pcreq_tree(const uint8_t *profile, size_t profile_count,
  * Returns the first of these, in the order in which the checks are made:
  *
  *    10 to 32 and 36 to 40  what yq_pcreq_tree finds wrong, in its order
+ *    42  likewise: an EXRS with no new domain after it
  *    34  path has fewer elements than a path has addresses
  *     1  no path keeps the bound, in either round
  *     0  the path is at the start of the buffer; the rest of it is untouched
@@ -456,6 +500,7 @@ uint32_t yq_pcreq_first(const uint8_t *profile, size_t profile_count,
  * Returns the first of these, in the order in which the checks are made:
  *
  *    10 to 32 and 36 to 40  what yq_pcreq_tree finds wrong, in its order
+ *    42  likewise: an EXRS with no new domain after it
  *    33  given has more or fewer elements than a path has addresses
  *    34  path has fewer elements than a path has addresses
  *     2  no shortest path is greater than the list

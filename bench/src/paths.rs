@@ -2,13 +2,13 @@
 //! way but keeps what it finds in maps and counts it.
 
 use crate::race::race;
-use crate::two_rounds::{two_rounds, NAMES};
+use crate::two_rounds::{two_rounds, with_exrs, EXRS_NAMES, NAMES};
 use reference::{generate, Question, Request, ShortestPaths};
 use tests::by_hand::{ask, profile_w, SHORT};
 use tests::paths::{first, next, LONGEST};
 
-/// The largest profile with a sequence of 16, in one round and in two, and with
-/// wide costs and a bound; the one with the most equal paths, where next goes on
+/// The largest profile with a sequence of 16, in one round and in two, with EXRS
+/// that fill the include list too, and with wide costs and a bound; the one with the most equal paths, where next goes on
 /// from a late path; and profile W.
 pub fn first_and_next() {
     let largest = generate::largest_request(0);
@@ -17,6 +17,9 @@ pub fn first_and_next() {
     race_first("first, 16 domains", &largest.request());
     race_next("next, 16 domains", &largest.request(), &after);
     for (name, case) in NAMES.iter().zip(two_rounds()) {
+        race_first(&format!("first, 16 domains, {name}"), &case.request());
+    }
+    for (name, case) in EXRS_NAMES.iter().zip(with_exrs()) {
         race_first(&format!("first, 16 domains, {name}"), &case.request());
     }
 

@@ -2,14 +2,15 @@
 //! one pass over the hop records for each domain of the sequence and round.
 
 use crate::race::{race, share};
-use crate::two_rounds::{two_rounds, NAMES};
+use crate::two_rounds::{two_rounds, with_exrs, EXRS_NAMES, NAMES};
 use reference::{generate, Request};
 use tests::by_hand::{ask, profile_w, SHORT};
 use tests::lists::excluded;
 use tests::tree::MOST_ENTRIES;
 
 /// The largest profile with a sequence of 16, then with a full exclude list,
-/// then in two rounds, then profile W.
+/// then in two rounds, then with 15 EXRS that fill the include list, in one round
+/// and in two, then profile W.
 pub fn tree() {
     let largest = generate::largest_request(0);
     let request = largest.request();
@@ -19,6 +20,7 @@ pub fn tree() {
     share("tree, of that check_profile alone", check, whole);
     let read = || {
         let (mut domains, mut pinned, mut pins) = ([0; 16], [0; 16], [0; 16]);
+        let (mut exrs_counts, mut exrs) = ([0; 16], [0; 1_024]);
         tests::read_include(
             request.profile,
             request.ingress,
@@ -26,7 +28,9 @@ pub fn tree() {
             &mut domains,
             &mut pinned,
             &mut pins,
-            &mut [0; 2],
+            &mut exrs_counts,
+            &mut exrs,
+            &mut [0; 3],
         )
     };
     share("tree, of that read_include alone", read, whole);
@@ -40,6 +44,9 @@ pub fn tree() {
     };
     race_tree("tree, 16 domains, 1,024 bytes excluded", &full, 241);
     for (name, case) in NAMES.iter().zip(two_rounds()) {
+        race_tree(&format!("tree, 16 domains, {name}"), &case.request(), 241);
+    }
+    for (name, case) in EXRS_NAMES.iter().zip(with_exrs()) {
         race_tree(&format!("tree, 16 domains, {name}"), &case.request(), 241);
     }
 

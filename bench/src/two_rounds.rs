@@ -1,6 +1,6 @@
 //! The largest profile in two rounds, each of them whole: the exclusions that
 //! are only desired rule out all entry nodes of the second domain, which a tree
-//! worked out from the last domain on meets last but one.
+//! worked out from the last domain on meets last but one. With EXRS also in one.
 
 use reference::generate::{self, RequestCase};
 use reference::Request;
@@ -19,14 +19,27 @@ pub fn two_rounds() -> [RequestCase; 2] {
         // 198.51.100.16/28.
         let entries = marked(excluded(0xC633_6410, 28));
         case.exclude = lacked.chain(entries).collect();
-        twice_all(&case.request());
+        all_in(2, &case.request());
         case
     })
 }
 
-/// All hops examined twice, and every entry reachable in the end.
-fn twice_all(request: &Request) {
-    let tree = build(request, "two rounds").expect("it is accepted");
-    assert_eq!((tree.hops_examined, tree.round), (6_000, 2));
+pub const EXRS_NAMES: [&str; 2] = ["15 EXRS", "15 EXRS, two rounds"];
+
+/// An EXRS for each domain but the first, 1,024 bytes of include list in all, of
+/// nodes that the profile lacks; and the same in two rounds.
+pub fn with_exrs() -> [RequestCase; 2] {
+    [1, 2].map(|rounds| {
+        let case = generate::largest_exrs_request(0, rounds);
+        assert_eq!(case.include.len(), 1_024);
+        all_in(rounds, &case.request());
+        case
+    })
+}
+
+/// All hops examined in each round, and every entry reachable in the end.
+fn all_in(rounds: u32, request: &Request) {
+    let tree = build(request, "all rounds").expect("it is accepted");
+    assert_eq!((tree.hops_examined, tree.round), (3_000 * rounds, rounds));
     assert!(tree.entries.iter().all(|entry| entry.2.is_some()));
 }

@@ -5,6 +5,7 @@ use crate::floats::nearest_bits;
 use crate::outcome::{settle, NotDone};
 use crate::paths::ShortestPaths;
 use crate::request::{accept_include, Question, Request};
+use crate::sequence::Stop;
 use crate::tree::Tree;
 use crate::writer;
 
@@ -13,7 +14,9 @@ pub fn check_profile(profile: &[u8], numbers: &mut [u32; 1]) -> u32 {
     settle(check(profile).map(|_| [0]), numbers)
 }
 
-/// Reads an include list on its own. `numbers`: place, how many domains.
+/// Reads an include list on its own. The EXRS of all domains stand back to back
+/// in `exrs`; `exrs_counts` says how many bytes of them each domain has.
+/// `numbers`: place, how many domains, how many bytes of EXRS.
 pub fn read_include(
     profile: &[u8],
     ingress: u16,
@@ -21,33 +24,47 @@ pub fn read_include(
     domains: &mut [u16],
     pinned: &mut [u8],
     pins: &mut [u32],
-    numbers: &mut [u32; 2],
+    exrs_counts: &mut [u32],
+    exrs: &mut [u8],
+    numbers: &mut [u32; 3],
 ) -> u32 {
     let result = accept_include(profile, ingress, include).and_then(|stops| {
         let needed = stops.len();
-        enough_room(&[domains.len(), pinned.len(), pins.len()], needed)?;
+        let lent = [domains.len(), pinned.len(), pins.len(), exrs_counts.len()];
+        enough_room(&lent, needed)?;
+        let bytes = stops.iter().map(Stop::exrs_bytes).sum();
+        enough_room(&[exrs.len()], bytes)?;
+        let mut at = 0;
         for (i, stop) in stops.iter().enumerate() {
             domains[i] = stop.domain as u16;
             pinned[i] = u8::from(stop.entry.is_some());
             pins[i] = stop.entry.unwrap_or(0);
+            exrs_counts[i] = stop.exrs_bytes() as u32;
+            for whole in &stop.exrs {
+                exrs[at..at + whole.len()].copy_from_slice(whole);
+                at += whole.len();
+            }
         }
-        Ok([0, needed as u32])
+        Ok([0, needed as u32, bytes as u32])
     });
     settle(result, numbers)
 }
 
-/// Writes a sequence of domains. `numbers`: place, how many bytes.
+/// Writes a sequence of domains, with the EXRS as `read_include` gives them.
+/// `numbers`: place, how many bytes.
 pub fn write_list(
     profile: &[u8],
     domains: &[u16],
     pinned: &[u8],
     pins: &[u32],
+    exrs_counts: &[u32],
+    exrs: &[u8],
     out: &mut [u8],
     numbers: &mut [u32; 2],
 ) -> u32 {
     let result = check(profile).and_then(|profile| {
-        let stops = writer::gather(&profile, domains, pinned, pins)?;
-        let list = writer::write(&profile, &stops);
+        let stops = writer::gather(&profile, domains, pinned, pins, exrs_counts, exrs)?;
+        let list = writer::write(&profile, &stops)?;
         enough_room(&[out.len()], list.len())?;
         out[..list.len()].copy_from_slice(&list);
         Ok([0, list.len() as u32])

@@ -1,5 +1,6 @@
 //! The meaning of the exclusions in force: domains and addresses a path must
-//! not use. What the profile lacks spoils nothing, so no number belongs to it.
+//! not use, anywhere or on the stretch that an EXRS speaks of. What the profile
+//! lacks spoils nothing, so no number belongs to it.
 
 use crate::profile::{Domain, Profile};
 use crate::subobject::{Body, Subobject};
@@ -7,6 +8,14 @@ use crate::subobject::{Body, Subobject};
 #[derive(Clone, Debug)]
 pub struct Exclusion {
     domains: Vec<bool>,
+    prefixes: Vec<Prefix>,
+}
+
+/// What the EXRS of one domain of the sequence exclude: the domain itself, and
+/// nodes that it must not be entered through.
+#[derive(Clone, Debug)]
+pub struct Stretch {
+    whole: bool,
     prefixes: Vec<Prefix>,
 }
 
@@ -42,10 +51,33 @@ impl Exclusion {
     }
 }
 
+impl Stretch {
+    pub fn new(domain: &Domain, list: &[Subobject]) -> Stretch {
+        let mut stretch = Stretch {
+            whole: false,
+            prefixes: Vec::new(),
+        };
+        for subobject in list {
+            match subobject.body {
+                Body::Address { address, prefix } => {
+                    stretch.prefixes.push(Prefix::new(address, prefix));
+                }
+                _ => stretch.whole |= names_domain(&subobject.body, domain),
+            }
+        }
+        stretch
+    }
+
+    /// The domain can't be entered through this node.
+    pub fn bars(&self, entry: u32) -> bool {
+        self.whole || self.prefixes.iter().any(|prefix| prefix.holds(entry))
+    }
+}
+
 /// An AS names all its domains; an area names its domain in every AS.
 fn names_domain(body: &Body, domain: &Domain) -> bool {
     match *body {
-        Body::Address { .. } => false,
+        Body::Address { .. } | Body::Exrs(_) => false,
         Body::AsNumber(as_number) => domain.as_number == as_number,
         Body::Area { kind, area } => domain.kind == kind && domain.area == area,
     }

@@ -1,4 +1,4 @@
-//! A path calculator written from document 01 and requests [1], [3] and [4] of
+//! A path calculator written from document 01 and requests [1] and [3] to [5] of
 //! document 02 alone, to be compared case by case with the proved library.
 //!
 //! The calls take and give what the C interface takes and gives, on
@@ -12,6 +12,7 @@
 mod calls;
 mod check;
 mod exclusion;
+mod exrs;
 mod floats;
 mod one_pass;
 mod outcome;
@@ -31,7 +32,7 @@ pub mod generate;
 pub mod series;
 
 pub use calls::{check_profile, first, next, read_include, tree, write_list};
-pub use exclusion::Exclusion;
+pub use exclusion::{Exclusion, Stretch};
 pub use floats::Exact;
 pub use one_pass::one_pass_tree;
 pub use outcome::NotDone;

@@ -15,6 +15,14 @@ impl NotDone {
             place: place as u32,
         })
     }
+
+    /// The same, its place counted from `offset` bytes earlier.
+    pub fn moved(self, offset: usize) -> NotDone {
+        NotDone {
+            place: self.place + offset as u32,
+            ..self
+        }
+    }
 }
 
 /// Stores the numbers of a call and returns document 01's number for it.

@@ -4,7 +4,7 @@
 
 use crate::exclusion::Exclusion;
 use crate::outcome::NotDone;
-use crate::profile::Hop;
+use crate::profile::{u16_at, u32_at, Domain, Hop};
 use crate::request::{Question, Request};
 use std::collections::BTreeMap;
 
@@ -43,8 +43,11 @@ pub struct Listed {
 #[derive(Clone, Debug)]
 pub struct Plain<'a> {
     question: Question<'a>,
-    /// What is excluded in each round; a second where some exclusion has X set.
+    /// What the exclude list excludes in each round; a second where some
+    /// exclusion has X set, there or in an EXRS.
     rounds: Vec<Exclusion>,
+    /// The subobjects inside the EXRS of each domain of the sequence.
+    stretches: Vec<Vec<&'a [u8]>>,
     bandwidth: f32,
     bound: Option<f64>,
 }
@@ -54,10 +57,19 @@ impl<'a> Plain<'a> {
         let question = Question::accept(request)?;
         let bound = f64::from(f32::from_bits(request.bound_bits));
         // Read from a request of its own, which has no others.
-        let demanded = demanded(request.exclude);
+        let mut demanded = pieces(request.exclude);
+        let all = demanded.len();
+        demanded.retain(|piece| !desired(piece));
+        let inside = |whole: &&'a [u8]| pieces(&whole[4..]);
+        let stretches: Vec<Vec<_>> = question
+            .stops
+            .iter()
+            .map(|stop| stop.exrs.iter().flat_map(inside).collect())
+            .collect();
         let mut rounds = vec![question.exclusion.clone()];
-        if demanded.len() < request.exclude.len() {
-            let exclude = &demanded[..];
+        let desired_inside = stretches.iter().flatten().any(|piece| desired(piece));
+        if demanded.len() < all || desired_inside {
+            let exclude = &demanded.concat()[..];
             let alone = Question::accept(&Request {
                 exclude,
                 ..*request
@@ -67,6 +79,7 @@ impl<'a> Plain<'a> {
         Ok(Plain {
             question,
             rounds,
+            stretches,
             bandwidth: f32::from_bits(request.bandwidth_bits),
             bound: request.bound_counts.then_some(bound),
         })
@@ -212,22 +225,50 @@ impl<'a> Plain<'a> {
             .iter()
             .zip(&walk.addresses)
             .all(|(stop, &address)| stop.entry.is_none_or(|entry| entry == address));
-        arrives && wide_enough && domains_free && addresses_free && entries_kept
+        let stretches_kept = (level..)
+            .zip(&walk.addresses)
+            .take(stops.len())
+            .all(|(i, &entry)| self.keeps_stretch(round, i, entry));
+        arrives && wide_enough && domains_free && addresses_free && entries_kept && stretches_kept
+    }
+
+    /// No EXRS of domain `i` hits it or the node through which it is entered.
+    fn keeps_stretch(&self, round: usize, i: usize, entry: u32) -> bool {
+        let domain = self.question.profile.domain(self.question.stops[i].domain);
+        let in_force = |piece: &&&[u8]| round == 0 || !desired(piece);
+        let mut pieces = self.stretches[i].iter().filter(in_force);
+        !pieces.any(|piece| hits(piece, entry, &domain))
     }
 }
 
-/// The exclude list without the subobjects whose top bit is set.
-fn demanded(exclude: &[u8]) -> Vec<u8> {
-    let mut kept = Vec::new();
-    let mut rest = exclude;
+/// The subobjects of a well-formed list.
+fn pieces(list: &[u8]) -> Vec<&[u8]> {
+    let mut pieces = Vec::new();
+    let mut rest = list;
     while let Some(&length) = rest.get(1) {
-        let (subobject, after) = rest.split_at(usize::from(length));
-        if subobject[0] < 0x80 {
-            kept.extend(subobject);
-        }
+        let (piece, after) = rest.split_at(usize::from(length));
+        pieces.push(piece);
         rest = after;
     }
-    kept
+    pieces
+}
+
+fn desired(piece: &[u8]) -> bool {
+    piece[0] >= 0x80
+}
+
+/// A subobject of an exclude list excludes this node or this domain.
+fn hits(piece: &[u8], node: u32, domain: &Domain) -> bool {
+    match piece[0] % 0x80 {
+        1 => {
+            let agree = (node ^ u32_at(piece, 2)).leading_zeros();
+            agree >= u32::from(piece[6])
+        }
+        5 => domain.as_number == u32_at(piece, 4),
+        32 => domain.as_number == u32::from(u16_at(piece, 2)),
+        6 => (domain.kind, domain.area) == (1, &piece[4..8]),
+        _ => (domain.kind, domain.area) == (2, &piece[4..4 + usize::from(piece[2])]),
+    }
 }
 
 fn extended(walk: &Walk, hops: &[Hop]) -> Vec<Walk> {

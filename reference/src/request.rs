@@ -1,14 +1,14 @@
 //! A request, and the question it stands for once it is accepted.
 
 use crate::check::check;
-use crate::exclusion::Exclusion;
+use crate::exclusion::{Exclusion, Stretch};
 use crate::floats::{in_range, Exact};
 use crate::outcome::NotDone;
 use crate::profile::{Hop, Profile};
 use crate::sequence::{read_meaning, Stop};
 use crate::subobject::{read_form, List, Subobject};
 
-const MAX_LIST: usize = 1024;
+pub const MAX_LIST: usize = 1024;
 
 /// What `tree`, `first` and `next` take, as the C interface passes it.
 #[derive(Clone, Copy, Debug)]
@@ -28,14 +28,18 @@ pub struct Request<'a> {
 #[derive(Clone, Debug)]
 pub struct Question<'a> {
     pub profile: Profile<'a>,
-    /// The domains D0 to Dk with their entry constraints; never empty.
-    pub stops: Vec<Stop>,
+    /// The domains D0 to Dk with their entry constraints and EXRS; never empty.
+    pub stops: Vec<Stop<'a>>,
     /// 1 with every exclusion in force, 2 with those of X clear alone.
     pub round: u32,
-    /// What is excluded in that round.
+    /// What is excluded in that round, anywhere.
     pub exclusion: Exclusion,
     /// The subobjects that the exclusion comes from.
     pub(crate) exclude: Vec<Subobject<'a>>,
+    /// What is excluded in that round for each of D0 to Dk alone.
+    pub stretches: Vec<Stretch>,
+    /// The subobjects that these come from.
+    pub(crate) exrs: Vec<Vec<Subobject<'a>>>,
     pub source: u32,
     pub destination: u32,
     pub bandwidth: Exact,
@@ -54,12 +58,15 @@ impl<'a> Question<'a> {
         let include = read_form(request.include, List::Include)?;
         let exclude = read_form(request.exclude, List::Exclude)?;
         let stops = read_meaning(&profile, usize::from(request.ingress), &include)?;
+        let exrs: Vec<_> = stops.iter().map(Stop::exclusions).collect();
         Ok(Question {
             profile,
-            stops,
             round: 1,
             exclusion: Exclusion::new(&profile, &exclude),
             exclude,
+            stretches: stretches(&profile, &stops, &exrs),
+            exrs,
+            stops,
             source: request.source,
             destination: request.destination,
             bandwidth: Exact::of_float(request.bandwidth_bits),
@@ -82,8 +89,8 @@ impl<'a> Question<'a> {
     /// Where step `i` of a path leads from and to: the next domain of the
     /// sequence, or the last domain itself for the last step.
     pub fn step_domains(&self, i: usize) -> (usize, usize) {
-        let to = self.stops[(i + 1).min(self.last())];
-        (self.stops[i].domain, to.domain)
+        let to = (i + 1).min(self.last());
+        (self.stops[i].domain, self.stops[to].domain)
     }
 
     pub fn usable(&self, hop: &Hop) -> bool {
@@ -96,8 +103,19 @@ impl<'a> Question<'a> {
     }
 }
 
+/// What the EXRS of each domain of the sequence exclude.
+pub fn stretches(profile: &Profile, stops: &[Stop], exrs: &[Vec<Subobject>]) -> Vec<Stretch> {
+    let each = stops.iter().zip(exrs);
+    each.map(|(stop, list)| Stretch::new(&profile.domain(stop.domain), list))
+        .collect()
+}
+
 /// Reads an include list on its own, as `read_include` does.
-pub fn accept_include(profile: &[u8], ingress: u16, include: &[u8]) -> Result<Vec<Stop>, NotDone> {
+pub fn accept_include<'a>(
+    profile: &[u8],
+    ingress: u16,
+    include: &'a [u8],
+) -> Result<Vec<Stop<'a>>, NotDone> {
     let profile = check(profile)?;
     check_ingress(&profile, ingress)?;
     check_list_length(include, 0)?;

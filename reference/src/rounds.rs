@@ -1,9 +1,10 @@
 //! The rounds of a request. The first keeps every exclusion. Where it has no
-//! admissible path and some exclusion is only desired (X set), whether or not
-//! that one hits anything, a second keeps the demanded ones alone.
+//! admissible path and some exclusion is only desired (X set), in the exclude
+//! list or in an EXRS and whether or not it hits anything, a second keeps the
+//! demanded ones alone.
 
 use crate::exclusion::Exclusion;
-use crate::request::Question;
+use crate::request::{stretches, Question};
 
 impl Question<'_> {
     /// What `search` finds in the round that applies; the question is left in
@@ -24,11 +25,16 @@ impl Question<'_> {
 
     /// Goes on to the second round; false if there is none.
     pub fn relax(&mut self) -> bool {
-        let any_desired = self.exclude.iter().any(|s| s.desired);
+        let mut all = self.exclude.iter().chain(self.exrs.iter().flatten());
+        let any_desired = all.any(|s| s.desired);
         if any_desired {
             self.round = 2;
             self.exclude.retain(|s| !s.desired);
             self.exclusion = Exclusion::new(&self.profile, &self.exclude);
+            for list in &mut self.exrs {
+                list.retain(|s| !s.desired);
+            }
+            self.stretches = stretches(&self.profile, &self.stops, &self.exrs);
         }
         any_desired
     }

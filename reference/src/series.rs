@@ -48,8 +48,9 @@ pub fn series(request: &Request, calls: &[Call], buffers: &mut [Vec<u32>]) -> Ve
 /// How many of a buffer's addresses are the path: a caller learns it from the
 /// sequence, which `read_include` gives. Never used for a refused request.
 fn path_length(request: &Request) -> usize {
-    let mut numbers = [0; 2];
+    let mut numbers = [0; 3];
     let (mut domains, mut pinned, mut pins) = ([0u16; 16], [0u8; 16], [0u32; 16]);
+    let (mut exrs_counts, mut exrs) = ([0u32; 16], [0u8; 1024]);
     read_include(
         request.profile,
         request.ingress,
@@ -57,6 +58,8 @@ fn path_length(request: &Request) -> usize {
         &mut domains,
         &mut pinned,
         &mut pins,
+        &mut exrs_counts,
+        &mut exrs,
         &mut numbers,
     );
     numbers[1] as usize + 1

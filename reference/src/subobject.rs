@@ -1,5 +1,6 @@
 //! The form of a list of subobjects: numbers 23 to 27.
 
+use crate::exrs;
 use crate::outcome::NotDone;
 use crate::profile::{u16_at, u32_at, IS_IS, OSPF};
 
@@ -12,7 +13,8 @@ const AS_TWO_BYTES: u8 = 32;
 /// The only attribute an excluded address may have: it names a node.
 const ATTRIBUTE_NODE: u8 = 1;
 
-/// Which list a subobject stands in: the first bit and type 1 differ.
+/// Which list a subobject stands in: the first bit, type 1 and type 33 differ.
+/// What stands inside an EXRS stands in an exclude list.
 #[derive(Clone, Copy, Debug, PartialEq, Eq)]
 pub enum List {
     Include,
@@ -21,9 +23,17 @@ pub enum List {
 
 #[derive(Clone, Copy, Debug, PartialEq, Eq)]
 pub enum Body<'a> {
-    Address { address: u32, prefix: u8 },
+    Address {
+        address: u32,
+        prefix: u8,
+    },
     AsNumber(u32),
-    Area { kind: u8, area: &'a [u8] },
+    Area {
+        kind: u8,
+        area: &'a [u8],
+    },
+    /// All bytes of an EXRS. Only an include list has it.
+    Exrs(&'a [u8]),
 }
 
 #[derive(Clone, Copy, Debug, PartialEq, Eq)]
@@ -55,7 +65,7 @@ pub fn check_form(bytes: &[u8], list: List) -> Result<(), NotDone> {
     while offset < bytes.len() {
         match measure(&bytes[offset..], list) {
             Ok(length) => offset += length,
-            Err(number) => return NotDone::at(number, offset),
+            Err(wrong) => return Err(wrong.moved(offset)),
         }
     }
     Ok(())
@@ -76,39 +86,43 @@ impl<'a> Walk<'a> {
         if rest.is_empty() {
             return Ok(None);
         }
-        match measure(rest, self.list) {
-            Ok(length) => {
-                self.offset += length;
-                Ok(Some(Subobject {
-                    offset,
-                    desired: top_bit(rest),
-                    body: body(&rest[..length]),
-                }))
-            }
-            Err(number) => NotDone::at(number, offset),
-        }
+        let length = measure(rest, self.list).map_err(|wrong| wrong.moved(offset))?;
+        self.offset += length;
+        Ok(Some(Subobject {
+            offset,
+            desired: top_bit(rest),
+            body: body(&rest[..length]),
+        }))
     }
 }
 
-/// How long the subobject is that `rest` begins with, if its form is right. The
-/// checks come in document 01's order, which judges the type before the length
-/// and a length that isn't the type's before one that runs past the end.
-fn measure(rest: &[u8], list: List) -> Result<usize, u32> {
+/// How long the subobject is that `rest` begins with, if its form is right; else
+/// the number, and its place in `rest`. The checks come in document 01's order,
+/// which judges the type before the length and a length that isn't the type's
+/// before one that runs past the end.
+fn measure(rest: &[u8], list: List) -> Result<usize, NotDone> {
     if rest.len() < 4 {
-        return Err(23);
+        return NotDone::at(23, 0);
     }
     let kind = rest[0] & 0x7F;
-    let length = length_of(kind, rest[2]).ok_or(24u32)?;
+    let Some(length) = length_of(kind, rest[2]) else {
+        return match (kind, list) {
+            (exrs::TYPE, List::Include) => exrs::measure(rest),
+            _ => NotDone::at(24, 0),
+        };
+    };
     if list == List::Include && top_bit(rest) {
-        return Err(27);
+        return NotDone::at(27, 0);
     }
     if kind == IS_IS_AREA && !(1..=13).contains(&rest[2]) {
-        return Err(26);
+        return NotDone::at(26, 0);
     }
     if length != usize::from(rest[1]) {
-        return Err(25);
+        return NotDone::at(25, 0);
     }
-    let whole = rest.get(..length).ok_or(23u32)?;
+    let Some(whole) = rest.get(..length) else {
+        return NotDone::at(23, 0);
+    };
     let fits = match kind {
         IPV4 => address_fits(whole[6], whole[7], list),
         IS_IS_AREA => whole[4 + usize::from(whole[2])..].iter().all(|&b| b == 0),
@@ -116,7 +130,7 @@ fn measure(rest: &[u8], list: List) -> Result<usize, u32> {
     };
     match fits {
         true => Ok(length),
-        false => Err(26),
+        false => NotDone::at(26, 0),
     }
 }
 
@@ -125,9 +139,9 @@ fn top_bit(subobject: &[u8]) -> bool {
     subobject[0] & 0x80 != 0
 }
 
-/// The whole length of a subobject of a supported type. `third` is its third
-/// byte, which is the area length of an IS-IS area and means nothing here for
-/// the others.
+/// The whole length of a subobject of a supported type, but for an EXRS, which
+/// has none of its own. `third` is its third byte, which is the area length of an
+/// IS-IS area and means nothing here for the others.
 fn length_of(kind: u8, third: u8) -> Option<usize> {
     match kind {
         IPV4 | AS_FOUR_BYTES | OSPF_AREA => Some(8),
@@ -157,6 +171,7 @@ fn body(whole: &[u8]) -> Body<'_> {
             kind: OSPF,
             area: &whole[4..8],
         },
+        exrs::TYPE => Body::Exrs(whole),
         _ => Body::Area {
             kind: IS_IS,
             area: &whole[4..4 + usize::from(whole[2])],

@@ -110,9 +110,12 @@ fn least_cost(
 }
 
 pub fn may_enter(question: &Question, i: usize, address: u32) -> bool {
-    let stop = question.stops[i];
+    let stop = &question.stops[i];
     let entry_fits = stop.entry.is_none_or(|entry| entry == address);
-    entry_fits && !question.exclusion.domain(stop.domain) && !question.exclusion.address(address)
+    let barred = question.exclusion.domain(stop.domain)
+        || question.exclusion.address(address)
+        || question.stretches[i].bars(address);
+    entry_fits && !barred
 }
 
 /// Nothing is left to pay at the destination, unless it is excluded.

@@ -1,18 +1,23 @@
 //! Writing a sequence of domains as an include list, number 35.
 
+use crate::exrs;
 use crate::outcome::NotDone;
 use crate::profile::{Domain, Profile, NO_AREA, OSPF};
+use crate::request::MAX_LIST;
 use crate::sequence::{Stop, MAX_DOMAINS};
 
-/// The sequence that the three slices stand for, or 35.
-pub fn gather(
+/// The sequence that the slices stand for, or 35.
+pub fn gather<'a>(
     profile: &Profile,
     domains: &[u16],
     pinned: &[u8],
     pins: &[u32],
-) -> Result<Vec<Stop>, NotDone> {
+    exrs_counts: &[u32],
+    exrs: &'a [u8],
+) -> Result<Vec<Stop<'a>>, NotDone> {
     let count = domains.len();
-    let counts_agree = pinned.len() == count && pins.len() == count;
+    let lengths = [pinned.len(), pins.len(), exrs_counts.len()];
+    let counts_agree = lengths.iter().all(|&length| length == count);
     if !counts_agree || count == 0 || count > MAX_DOMAINS {
         return NotDone::at(35, 0);
     }
@@ -23,11 +28,31 @@ pub fn gather(
     if !indexes_fit || !marks_fit || pinned[0] == 1 || any_twice(domains) {
         return NotDone::at(35, 0);
     }
+    let Some(mut exrs) = exrs_of_each(exrs_counts, exrs) else {
+        return NotDone::at(35, 0);
+    };
+    if !exrs[0].is_empty() {
+        return NotDone::at(35, 0);
+    }
     let stop = |i: usize| Stop {
         domain: usize::from(domains[i]),
         entry: (pinned[i] == 1).then_some(pins[i]),
+        exrs: std::mem::take(&mut exrs[i]),
     };
     Ok((0..count).map(stop).collect())
+}
+
+/// The EXRS of each domain, if the counts add up to the bytes and each domain's
+/// bytes are whole EXRS of right form by themselves.
+fn exrs_of_each<'a>(counts: &[u32], bytes: &'a [u8]) -> Option<Vec<Vec<&'a [u8]>>> {
+    let mut each = Vec::with_capacity(counts.len());
+    let mut rest = bytes;
+    for &count in counts {
+        let (own, after) = rest.split_at_checked(count as usize)?;
+        each.push(exrs::split(own)?);
+        rest = after;
+    }
+    rest.is_empty().then_some(each)
 }
 
 fn any_twice(domains: &[u16]) -> bool {
@@ -37,8 +62,9 @@ fn any_twice(domains: &[u16]) -> bool {
         .any(|(i, d)| domains[..i].contains(d))
 }
 
-/// The include list that names `stops`, read back with the first as ingress.
-pub fn write(profile: &Profile, stops: &[Stop]) -> Vec<u8> {
+/// The include list that names `stops`, read back with the first as ingress; 35
+/// if it would be longer than a list may be.
+pub fn write(profile: &Profile, stops: &[Stop]) -> Result<Vec<u8>, NotDone> {
     let mut out = Vec::new();
     let mut as_before = None;
     for stop in stops {
@@ -46,6 +72,7 @@ pub fn write(profile: &Profile, stops: &[Stop]) -> Vec<u8> {
         if let Some(address) = stop.entry {
             write_entry(&mut out, address);
         }
+        stop.exrs.iter().for_each(|whole| out.extend(*whole));
         if as_before != Some(domain.as_number) {
             write_as(&mut out, domain.as_number);
         }
@@ -54,7 +81,10 @@ pub fn write(profile: &Profile, stops: &[Stop]) -> Vec<u8> {
         }
         as_before = Some(domain.as_number);
     }
-    out
+    match out.len() <= MAX_LIST {
+        true => Ok(out),
+        false => NotDone::at(35, 0),
+    }
 }
 
 fn write_entry(out: &mut Vec<u8>, address: u32) {

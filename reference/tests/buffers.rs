@@ -22,10 +22,11 @@ fn result_end<const N: usize>(number: u32, numbers: [u32; N], length: usize) -> 
 
 #[test]
 fn read_include_keeps_the_rest() {
-    for seed in 0..CASES {
-        let case = generate::include_case(seed);
+    let plain = (0..CASES).map(|seed| (seed, generate::include_case(seed)));
+    let exrs = (0..CASES).map(|seed| (seed, generate::exrs_include_case(seed)));
+    for (seed, case) in plain.chain(exrs) {
         let mut after = case.clone();
-        let mut numbers = [9; 2];
+        let mut numbers = [9; 3];
         let number = reference::read_include(
             &case.profile,
             case.ingress,
@@ -33,12 +34,18 @@ fn read_include_keeps_the_rest() {
             &mut after.domains,
             &mut after.pinned,
             &mut after.pins,
+            &mut after.exrs_counts,
+            &mut after.exrs,
             &mut numbers,
         );
         let end = result_end(number, numbers, numbers[1] as usize);
         unchanged_from(end, &case.domains, &after.domains, seed);
         unchanged_from(end, &case.pinned, &after.pinned, seed);
         unchanged_from(end, &case.pins, &after.pins, seed);
+        unchanged_from(end, &case.exrs_counts, &after.exrs_counts, seed);
+        unchanged_from(numbers[2] as usize, &case.exrs, &after.exrs, seed);
+        let bytes: u32 = after.exrs_counts[..end].iter().sum();
+        assert_eq!(bytes, numbers[2], "seed {seed}");
         for i in 0..end {
             assert!(after.pinned[i] <= 1 && (after.pinned[i] == 1 || after.pins[i] == 0));
         }
@@ -47,8 +54,9 @@ fn read_include_keeps_the_rest() {
 
 #[test]
 fn write_list_keeps_the_rest() {
-    for seed in 0..CASES {
-        let case = generate::write_case(seed);
+    let plain = (0..CASES).map(|seed| (seed, generate::write_case(seed)));
+    let exrs = (0..CASES).map(|seed| (seed, generate::exrs_write_case(seed)));
+    for (seed, case) in plain.chain(exrs) {
         let mut out = case.out.clone();
         let mut numbers = [9; 2];
         let number = reference::write_list(
@@ -56,6 +64,8 @@ fn write_list_keeps_the_rest() {
             &case.domains,
             &case.pinned,
             &case.pins,
+            &case.exrs_counts,
+            &case.exrs,
             &mut out,
             &mut numbers,
         );

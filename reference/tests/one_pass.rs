@@ -23,9 +23,16 @@ fn left(case: &RequestCase, call: Call) -> (u32, [u32; 4], RequestCase) {
 fn both_trees_are_the_same() {
     let generated = (0..12_000).map(generate::request_case);
     let decided = (0..8_000).map(|seed| generate::round_case(seed).request);
-    let large = (0..20).map(generate::largest_request);
+    let exrs = (0..8_000).map(|seed| generate::exrs_next_case(seed).request);
+    let full = (0..10).map(|seed| generate::largest_exrs_request(seed, 1 + seed as u32 % 2));
+    let large = (0..20).map(generate::largest_request).chain(full);
     let mut rounds = [0; 3];
-    for (index, case) in generated.chain(decided).chain(large).enumerate() {
+    for (index, case) in generated
+        .chain(decided)
+        .chain(exrs)
+        .chain(large)
+        .enumerate()
+    {
         let (number, numbers, ours) = left(&case, one_pass_tree);
         let (same, again, theirs) = left(&case, tree);
         assert_eq!((number, numbers), (same, again), "case {index}");

@@ -3,7 +3,7 @@
 //! without desired exclusions gets.
 
 mod common;
-use common::desired::{all_demanded, demanded_alone, Decided, Outcomes};
+use common::desired::{in_round, Decided, Outcomes};
 use common::{first, listing, next, tree};
 use reference::generate;
 use reference::plain::Plain;
@@ -74,15 +74,14 @@ fn the_search_agrees_with_the_listing_of_every_path() {
 /// ones were there, but for the round's number and twice the tally.
 #[test]
 fn each_round_is_a_request_of_its_own() {
-    for seed in 0..8_000 {
-        let case = generate::round_case(seed);
+    let plain = (0..8_000).map(|seed| (seed, generate::round_case(seed)));
+    let exrs = (0..8_000).map(|seed| (seed, generate::exrs_round_case(seed)));
+    for (seed, case) in plain.chain(exrs) {
         let request = case.request.request();
         let (entries, tally, round) = tree(&request);
-        let exclude = match round {
-            1 => all_demanded(request.exclude),
-            _ => demanded_alone(request.exclude),
-        };
+        let (include, exclude) = in_round(&request, round);
         let alone = Request {
+            include: &include,
             exclude: &exclude,
             ..request
         };

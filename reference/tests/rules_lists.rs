@@ -38,7 +38,7 @@ fn read_from(ingress: u16, pieces: &[Vec<u8>]) -> Reading {
 }
 
 fn bare(domains: &[u16]) -> Reading {
-    Ok(domains.iter().map(|&d| (d, None)).collect())
+    without_exrs(domains.iter().map(|&d| (d, None)))
 }
 
 #[test]
@@ -108,7 +108,7 @@ fn ignored_bytes_are_not_looked_at() {
     ];
     assert_eq!(
         read_from(0, &list),
-        Ok(vec![(0, None), (2, Some(0x0102_0304)), (3, None)])
+        without_exrs([(0, None), (2, Some(0x0102_0304)), (3, None)])
     );
 }
 
@@ -200,13 +200,13 @@ fn an_entry_constraint_waits() {
     ];
     assert_eq!(
         read_from(0, &waits),
-        Ok(vec![(0, None), (4, Some(7)), (3, None)])
+        without_exrs([(0, None), (4, Some(7)), (3, None)])
     );
     // One between AS and area leaves the AS alone; the area then adds nothing.
     let between = [as_number(64498), entry(7), is_is(), as_number(65536)];
     assert_eq!(
         read_from(0, &between),
-        Ok(vec![(0, None), (3, None), (4, Some(7))])
+        without_exrs([(0, None), (3, None), (4, Some(7))])
     );
 }
 
@@ -287,13 +287,15 @@ fn length_of_a_list() {
 fn capacity_is_judged_on_each_buffer() {
     let list = [as_number(64498), as_number(65536)].concat();
     for (rooms, number) in [
-        ([3, 3, 3], 0),
-        ([2, 3, 3], 34),
-        ([3, 2, 3], 34),
-        ([3, 3, 2], 34),
+        ([3, 3, 3, 3], 0),
+        ([2, 3, 3, 3], 34),
+        ([3, 2, 3, 3], 34),
+        ([3, 3, 2, 3], 34),
+        ([3, 3, 3, 2], 34),
     ] {
         let (mut domains, mut pinned) = (vec![0; rooms[0]], vec![0; rooms[1]]);
-        let (mut pins, mut numbers) = (vec![9; rooms[2]], [9; 2]);
+        let (mut pins, mut exrs_counts) = (vec![9; rooms[2]], vec![9; rooms[3]]);
+        let mut numbers = [9; 3];
         let answer = reference::read_include(
             &profile(),
             0,
@@ -301,16 +303,17 @@ fn capacity_is_judged_on_each_buffer() {
             &mut domains,
             &mut pinned,
             &mut pins,
+            &mut exrs_counts,
+            &mut [],
             &mut numbers,
         );
-        let expected = if number == 0 { [0, 3] } else { [0, 0] };
+        let expected = if number == 0 { [0, 3, 0] } else { [0; 3] };
         assert_eq!((answer, numbers), (number, expected));
-        let untouched = if number == 0 {
-            vec![0; 3]
-        } else {
-            vec![9; rooms[2]]
+        let left = |room| match number {
+            0 => vec![0; 3],
+            _ => vec![9; room],
         };
-        assert_eq!(pins, untouched);
+        assert_eq!((pins, exrs_counts), (left(rooms[2]), left(rooms[3])));
     }
 }
 
@@ -318,8 +321,16 @@ fn capacity_is_judged_on_each_buffer() {
 fn the_writer() {
     let write = |domains: &[u16], pinned: &[u8], pins: &[u32], room: usize| {
         let (mut out, mut numbers) = (vec![0xAA; room], [9; 2]);
-        let number =
-            reference::write_list(&profile(), domains, pinned, pins, &mut out, &mut numbers);
+        let number = reference::write_list(
+            &profile(),
+            domains,
+            pinned,
+            pins,
+            &vec![0; domains.len()],
+            &[],
+            &mut out,
+            &mut numbers,
+        );
         (number, numbers, out)
     };
     let expected = [
@@ -366,8 +377,17 @@ fn the_writer_takes_16_domains() {
     let write = |count: usize| {
         let all: Vec<u16> = (0..count as u16).collect();
         let (mut out, mut numbers) = ([0; 200], [9; 2]);
-        let (pinned, pins) = (vec![0; count], vec![0; count]);
-        let number = reference::write_list(&profile, &all, &pinned, &pins, &mut out, &mut numbers);
+        let (pinned, words) = (vec![0; count], vec![0; count]);
+        let number = reference::write_list(
+            &profile,
+            &all,
+            &pinned,
+            &words,
+            &words,
+            &[],
+            &mut out,
+            &mut numbers,
+        );
         (number, numbers[1])
     };
     assert_eq!(write(16), (0, 128));

@@ -299,7 +299,9 @@ fn form_of_the_lists() {
     let fine = [32, 4, 0, 9];
     for (wrong, include, exclude) in [
         ("05 08 00 00", 23, 23),             // past the end
-        ("21 04 00 00", 24, 24),             // type 33
+        ("22 04 00 00", 24, 24),             // type 34
+        ("21 04 00 00", 26, 24),             // an EXRS with nothing inside
+        ("21 08 FF FF A0 04 00 09", 0, 24),  // an EXRS
         ("A0 04 00 09", 27, 0),              // L, or X
         ("20 08 00 09", 25, 25),             // length
         ("01 08 C0 00 02 0C 1F 01", 26, 0),  // prefix length 31

@@ -9,8 +9,9 @@ use std::collections::BTreeMap;
 #[test]
 fn every_series_is_the_books() {
     let mut answers: BTreeMap<(bool, u32), usize> = BTreeMap::new();
-    for seed in 0..6000 {
-        let case = generate::series_case(seed);
+    let plain = (0..6000).map(|seed| (seed, generate::series_case(seed)));
+    let exrs = (0..3000).map(|seed| (seed, generate::exrs_series_case(seed)));
+    for (seed, case) in plain.chain(exrs) {
         let request = case.request.request();
         let (mut run, mut book) = (case.buffers.clone(), case.buffers.clone());
         let outcomes = series(&request, &case.calls, &mut run);

@@ -43,7 +43,7 @@ fn the_long_form_means_the_same() {
     assert_eq!(read(&w, 0, &long), read(&w, 0, &SHORT));
     assert_eq!(
         read(&w, 0, &long),
-        Ok(vec![(0, None), (1, None), (2, None)])
+        without_exrs([(0, None), (1, None), (2, None)])
     );
     assert_eq!(tree(&ask(&w, &long)), (tree_of_w(), 8, 1));
 }
@@ -110,7 +110,7 @@ fn an_entry_constraint_on_u() {
     ];
     assert_eq!(
         read(&w, 0, &include),
-        Ok(vec![(0, None), (1, None), (2, Some(U))])
+        without_exrs([(0, None), (1, None), (2, Some(U))])
     );
     assert_eq!(listing(&ask(&w, &include), 4), totals(&[SPUZ, SQUZ], 14));
 }
@@ -163,7 +163,10 @@ fn an_is_is_area_of_three_bytes() {
     let profile = file(0, &domains, &[]);
     let mut include = vec![0x20, 4, 0xFB, 0xF1];
     include.extend([7, 8, 3, 0, 0x49, 0, 1, 0]);
-    assert_eq!(read(&profile, 0, &include), Ok(vec![(0, None), (1, None)]));
+    assert_eq!(
+        read(&profile, 0, &include),
+        without_exrs([(0, None), (1, None)])
+    );
     for length in [0, 14] {
         include[6] = length;
         assert_eq!(read(&profile, 0, &include), Err((26, 4)));
@@ -183,7 +186,7 @@ fn figure_3_renumbered() {
     let ospf = |n: u8| vec![6, 8, 0, 0, 0, 0, 0, n];
     let short = [as_number(0xF5), ospf(0), ospf(4)].concat();
     let long = [as_number(0xF4), ospf(0), as_number(0xF5), ospf(0), ospf(4)].concat();
-    let sequence = Ok(vec![(0, None), (1, None), (2, None)]);
+    let sequence = without_exrs([(0, None), (1, None), (2, None)]);
     assert_eq!(read(&profile, 0, &short), sequence);
     assert_eq!(read(&profile, 0, &long), sequence);
     assert_eq!(read(&profile, 0, &as_number(0xF5)), Err((29, 0)));
@@ -195,6 +198,8 @@ fn figure_3_renumbered() {
         &[0, 1, 2],
         &[0; 3],
         &[0; 3],
+        &[0; 3],
+        &[],
         &mut out,
         &mut numbers,
     );

@@ -3,7 +3,8 @@
 //! object's frame and for each field, as the library reads it. PCReqs that the
 //! Rust wrapper wrote are taken from standard input, one to a line.
 
-use reference::generate::{self, Random};
+use reference::generate::{self, Random, RequestCase};
+use tests::by_hand::desired::subobjects;
 use tests::by_hand::messages::*;
 use tests::pcrep::{self, write_pcrep};
 use tests::pcreq;
@@ -21,6 +22,8 @@ const VECTORS: [&str; 7] = [
 /// Longer ones don't fit the packet that they are put into.
 const LONGEST: usize = 60_000;
 
+const EXRS: u8 = 33;
+
 fn main() {
     for text in VECTORS {
         show("typed", &hex(text));
@@ -28,11 +31,17 @@ fn main() {
     let written = (0..).filter_map(written).take(60);
     written.for_each(|message| show("written", &message));
     for seed in 0..100 {
-        show("made", &made_request(seed));
+        let plain = generate::small_request_case(seed);
+        show("made", &made_request(seed, &plain));
+        let with_exrs = generate::exrs_round_case(seed).request;
+        show("made", &made_request(seed, &with_exrs));
         show("made", &made_reply(seed));
     }
     for line in std::io::stdin().lines() {
-        show("wrapper", &hex(&line.expect("lines of digits")));
+        let message = hex(&line.expect("lines of digits"));
+        if !is_passed(&message) {
+            show("wrapper", &message);
+        }
     }
 }
 
@@ -46,9 +55,8 @@ fn written(seed: u64) -> Option<Vec<u8>> {
 
 /// A PCReq that is right in all that Wireshark looks at too, so it has no bytes
 /// that are only skipped: objects in any order, some twice, with TLVs.
-fn made_request(seed: u64) -> Vec<u8> {
+fn made_request(seed: u64, case: &RequestCase) -> Vec<u8> {
     let random = &mut Random::new(seed, 112);
-    let case = generate::small_request_case(seed);
     let mut objects = vec![
         rp(random.bits(), random.bits()),
         end_points(case.source, case.destination),
@@ -62,7 +70,34 @@ fn made_request(seed: u64) -> Vec<u8> {
     if random.chance(5, 6) {
         objects.push(xro(&case.exclude));
     }
-    any_order(random, PCREQ, objects)
+    let mut objects = any_order(random, objects);
+    if placed(&case.include).any(|(_, piece)| piece[0] == EXRS) {
+        objects.push(object(200, 1, 0, &[0; 252])); // see `is_passed`
+    }
+    message(PCREQ, &objects)
+}
+
+/// Wireshark marks a subobject that it doesn't know inside an EXRS from the third
+/// byte on, for as many bytes as the EXRS has but two, and takes a message that
+/// these pass for malformed.
+fn is_passed(message: &[u8]) -> bool {
+    let fields = pcreq::read(message, "looked at").expect("what the wrapper writes");
+    let [.., at, length, _, _] = fields.numbers.map(|number| number as usize);
+    let mut all = placed(&message[at..at + length]).filter(|(_, piece)| piece[0] == EXRS);
+    all.any(|(offset, exrs)| {
+        placed(&exrs[4..]).any(|(inside, piece)| {
+            let known = [1, 32].contains(&(piece[0] & 0x7F));
+            !known && at + offset + 4 + inside + exrs.len() > message.len()
+        })
+    })
+}
+
+/// The subobjects of a list, each with its offset.
+fn placed(list: &[u8]) -> impl Iterator<Item = (usize, &[u8])> {
+    subobjects(list).into_iter().scan(0, |end, piece| {
+        *end += piece.len();
+        Some((*end - piece.len(), piece))
+    })
 }
 
 fn made_reply(seed: u64) -> Vec<u8> {
@@ -76,12 +111,12 @@ fn made_reply(seed: u64) -> Vec<u8> {
         1..=2 => objects.push(path),
         _ => objects.extend([none, path]),
     }
-    any_order(random, PCREP, objects)
+    message(PCREP, &any_order(random, objects))
 }
 
 /// The objects with more METRICs and repeats, in any order, with any bits in
 /// their headers.
-fn any_order(random: &mut Random, message_type: u8, mut objects: Vec<Vec<u8>>) -> Vec<u8> {
+fn any_order(random: &mut Random, mut objects: Vec<Vec<u8>>) -> Vec<Vec<u8>> {
     for index in 0..objects.len() {
         let piece = objects[index].clone();
         // TLVs may follow an RP (here an unknown one) and a NO-PATH.
@@ -108,7 +143,7 @@ fn any_order(random: &mut Random, message_type: u8, mut objects: Vec<Vec<u8>>) -
     for index in (1..objects.len()).rev() {
         objects.swap(index, random.below(index + 1));
     }
-    message(message_type, &objects)
+    objects
 }
 
 fn show(from: &str, message: &[u8]) {
@@ -149,11 +184,10 @@ fn show_metrics(metrics: &[(u8, u8, u32)]) {
     }
 }
 
-/// Type, top bit and content; of the types that came with RFC 7897 Wireshark
-/// knows no more than where they begin.
-fn show_list(name: &str, mut rest: &[u8]) {
-    while !rest.is_empty() {
-        let (piece, after) = rest.split_at(usize::from(rest[1]));
+/// Type, top bit and content, of an EXRS also what is inside; of the types that
+/// came with RFC 7897 Wireshark knows no more than where they begin.
+fn show_list(name: &str, list: &[u8]) {
+    for piece in subobjects(list) {
         let (kind, top, length) = (piece[0] & 0x7F, piece[0] >> 7, piece[1]);
         match kind {
             1 => {
@@ -163,14 +197,19 @@ fn show_list(name: &str, mut rest: &[u8]) {
                     piece[6], piece[7]
                 );
             }
-            // Wireshark wants 8 bytes for an AS in an XRO; document 01 has 4.
+            // Wireshark wants 8 bytes for an AS in an XRO or an EXRS; document 01
+            // has 4.
             32 if name == "include" => {
                 let as_number = u16::from_be_bytes([piece[2], piece[3]]);
                 println!("{name} 32 {top} {length} {as_number:04x}");
             }
+            EXRS => {
+                let reserved = u16::from_be_bytes([piece[2], piece[3]]);
+                println!("{name} 33 {top} {length} {reserved:04x}");
+                show_list("inside", &piece[4..]);
+            }
             _ => println!("{name} {kind}"),
         }
-        rest = after;
     }
 }
 

@@ -128,6 +128,13 @@ impl Counts {
         }
     }
 
+    /// How often a number came up.
+    pub fn cases(&self, number: u32) -> usize {
+        self.0
+            .get(&number)
+            .map_or(0, |places| places.values().sum())
+    }
+
     /// At how many different places a number came up.
     pub fn places(&self, number: u32) -> usize {
         self.0.get(&number).map_or(0, BTreeMap::len)

@@ -4,6 +4,7 @@
 //! leave.
 
 pub mod compare;
+pub mod exrs;
 pub mod floats;
 pub mod frames;
 pub mod lists;
@@ -16,6 +17,7 @@ pub mod series;
 pub mod stack;
 pub mod tree;
 pub mod wide;
+pub mod writing;
 pub mod wrong;
 
 /// Profiles written out by hand, shared with the reference's own tests.
@@ -39,6 +41,10 @@ extern "C" {
         pinned_count: usize,
         pins: *mut u32,
         pins_count: usize,
+        exrs_counts: *mut u32,
+        exrs_counts_count: usize,
+        exrs: *mut u8,
+        exrs_count: usize,
         numbers: *mut u32,
     ) -> u32;
 
@@ -51,6 +57,10 @@ extern "C" {
         pinned_count: usize,
         pins: *const u32,
         pins_count: usize,
+        exrs_counts: *const u32,
+        exrs_counts_count: usize,
+        exrs: *const u8,
+        exrs_count: usize,
         out: *mut u8,
         out_count: usize,
         numbers: *mut u32,
@@ -63,7 +73,9 @@ pub fn check_profile(profile: &[u8], numbers: &mut [u32; 1]) -> u32 {
     unsafe { yq_check_profile(profile.as_ptr(), profile.len(), numbers.as_mut_ptr()) }
 }
 
-/// Reads an include list. `numbers`: place, how many domains.
+/// Reads an include list. The EXRS of all domains stand back to back in `exrs`;
+/// `exrs_counts` says how many bytes of them each domain has. `numbers`: place,
+/// how many domains, how many bytes of EXRS.
 pub fn read_include(
     profile: &[u8],
     ingress: u16,
@@ -71,10 +83,12 @@ pub fn read_include(
     domains: &mut [u16],
     pinned: &mut [u8],
     pins: &mut [u32],
-    numbers: &mut [u32; 2],
+    exrs_counts: &mut [u32],
+    exrs: &mut [u8],
+    numbers: &mut [u32; 3],
 ) -> u32 {
     // SAFETY: the call reads the two lists' bytes and writes no further than
-    // the three buffers and the array's two numbers.
+    // the five buffers and the array's three numbers.
     unsafe {
         yq_read_include(
             profile.as_ptr(),
@@ -88,21 +102,28 @@ pub fn read_include(
             pinned.len(),
             pins.as_mut_ptr(),
             pins.len(),
+            exrs_counts.as_mut_ptr(),
+            exrs_counts.len(),
+            exrs.as_mut_ptr(),
+            exrs.len(),
             numbers.as_mut_ptr(),
         )
     }
 }
 
-/// Writes a sequence of domains. `numbers`: place, how many bytes.
+/// Writes a sequence of domains, with EXRS as `read_include` gives them.
+/// `numbers`: place, how many bytes.
 pub fn write_list(
     profile: &[u8],
     domains: &[u16],
     pinned: &[u8],
     pins: &[u32],
+    exrs_counts: &[u32],
+    exrs: &[u8],
     out: &mut [u8],
     numbers: &mut [u32; 2],
 ) -> u32 {
-    // SAFETY: the call reads the four lists and writes no further than the
+    // SAFETY: the call reads the six lists and writes no further than the
     // buffer and the array's two numbers.
     unsafe {
         yq_write_list(
@@ -114,6 +135,10 @@ pub fn write_list(
             pinned.len(),
             pins.as_ptr(),
             pins.len(),
+            exrs_counts.as_ptr(),
+            exrs_counts.len(),
+            exrs.as_ptr(),
+            exrs.len(),
             out.as_mut_ptr(),
             out.len(),
             numbers.as_mut_ptr(),

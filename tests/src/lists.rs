@@ -1,9 +1,9 @@
-//! Domain lists: their subobjects written out by hand, and one reading or
-//! writing given to both programs.
+//! Domain lists: their subobjects written out by hand, and one reading given to
+//! both programs.
 
-use crate::by_hand::{domain, file};
+use crate::by_hand::{domain, file, without_exrs};
 use crate::compare::{compare, Answer, Case, Lent};
-use reference::generate::Reading;
+use reference::generate::{IncludeCase, Reading};
 use std::fmt::Display;
 
 /// An AS in the short form, type 32.
@@ -37,6 +37,12 @@ pub fn excluded(node: u32, length: u8) -> Vec<u8> {
     [&[1, 8], &node.to_be_bytes()[..], &[length, 1]].concat()
 }
 
+/// An EXRS with these exclusions inside.
+pub fn exrs(inside: &[Vec<u8>]) -> Vec<u8> {
+    let inside = inside.concat();
+    [&[33, 4 + inside.len() as u8, 0, 0], &inside[..]].concat()
+}
+
 /// The subobject with its first bit set: L in an include list, X in an exclude
 /// list.
 pub fn marked(mut piece: Vec<u8>) -> Vec<u8> {
@@ -44,15 +50,29 @@ pub fn marked(mut piece: Vec<u8>) -> Vec<u8> {
     piece
 }
 
-/// What `read_include` is lent: domains, marks of entry constraints, nodes.
-pub type Buffers = (Lent<u16>, Lent<u8>, Lent<u32>);
+/// What `read_include` is lent: domains, marks of entry constraints, nodes,
+/// counts of EXRS bytes, and these.
+pub type Buffers = (Lent<u16>, Lent<u8>, Lent<u32>, Lent<u32>, Lent<u8>);
 
 /// Buffers of these capacities, filled with what no reading writes.
-pub fn buffers([domains, pinned, pins]: [usize; 3]) -> Buffers {
+pub fn buffers([domains, pinned, pins, exrs_counts]: [usize; 4], exrs: usize) -> Buffers {
     (
         Lent::new(&vec![0xAAAA; domains]),
         Lent::new(&vec![0xAA; pinned]),
         Lent::new(&vec![0xAAAA_AAAA; pins]),
+        Lent::new(&vec![0xAAAA_AAAA; exrs_counts]),
+        Lent::new(&vec![0xAA; exrs]),
+    )
+}
+
+/// The buffers that a generated case brings.
+pub fn buffers_of(case: &IncludeCase) -> Buffers {
+    (
+        Lent::new(&case.domains),
+        Lent::new(&case.pinned),
+        Lent::new(&case.pins),
+        Lent::new(&case.exrs_counts),
+        Lent::new(&case.exrs),
     )
 }
 
@@ -63,15 +83,28 @@ pub struct ReadInclude<'a> {
     pub buffers: Buffers,
 }
 
+pub type ReadCall = fn(
+    &[u8],
+    u16,
+    &[u8],
+    &mut [u16],
+    &mut [u8],
+    &mut [u32],
+    &mut [u32],
+    &mut [u8],
+    &mut [u32; 3],
+) -> u32;
+
 impl Case for ReadInclude<'_> {
-    type Call = fn(&[u8], u16, &[u8], &mut [u16], &mut [u8], &mut [u32], &mut [u32; 2]) -> u32;
-    type Answer = Answer<2, Buffers>;
+    type Call = ReadCall;
+    type Answer = Answer<3, Buffers>;
 
     const LIBRARY: Self::Call = crate::read_include;
     const REFERENCE: Self::Call = reference::read_include;
 
     fn answer(&self, call: Self::Call) -> Self::Answer {
-        Answer::of(self.buffers.clone(), |(domains, pinned, pins), numbers| {
+        Answer::of(self.buffers.clone(), |lent, numbers| {
+            let (domains, pinned, pins, exrs_counts, exrs) = lent;
             call(
                 self.profile,
                 self.ingress,
@@ -79,6 +112,8 @@ impl Case for ReadInclude<'_> {
                 domains.buffer(),
                 pinned.buffer(),
                 pins.buffer(),
+                exrs_counts.buffer(),
+                exrs.buffer(),
                 numbers,
             )
         })
@@ -91,26 +126,35 @@ impl ReadInclude<'_> {
     #[track_caller]
     pub fn read(&self, which: impl Display) -> Reading {
         let answer = compare(self, &which);
-        let (place, count) = (answer.numbers[0], answer.numbers[1] as usize);
-        let (domains, pinned, pins) = &answer.buffers;
+        let [place, count, bytes] = answer.numbers.map(|number| number as usize);
+        let (domains, pinned, pins, exrs_counts, exrs) = &answer.buffers;
         let kept = domains.kept_past(count, &self.buffers.0)
             && pinned.kept_past(count, &self.buffers.1)
-            && pins.kept_past(count, &self.buffers.2);
+            && pins.kept_past(count, &self.buffers.2)
+            && exrs_counts.kept_past(count, &self.buffers.3)
+            && exrs.kept_past(bytes, &self.buffers.4);
         assert!(kept, "{which}: wrote more than the result: {answer:?}");
         if answer.number != 0 {
-            assert_eq!(count, 0, "{which}: {answer:?}");
+            assert_eq!((count, bytes), (0, 0), "{which}: {answer:?}");
             return Err(answer.verdict());
         }
-        assert!(
-            place == 0 && (1..=16).contains(&count),
-            "{which}: {answer:?}"
-        );
-        let stop = |i: usize| match (pinned.contents()[i], pins.contents()[i]) {
-            (0, 0) => (domains.contents()[i], None),
-            (1, node) => (domains.contents()[i], Some(node)),
-            _ => panic!("{which}: not a mark and its node at {i}: {answer:?}"),
-        };
-        Ok((0..count).map(stop).collect())
+        let fits = place == 0 && (1..=16).contains(&count) && exrs_counts.contents()[0] == 0;
+        assert!(fits, "{which}: {answer:?}");
+        let mut rest = &exrs.contents()[..bytes];
+        let mut stops = Vec::new();
+        for i in 0..count {
+            let node = match (pinned.contents()[i], pins.contents()[i]) {
+                (0, 0) => None,
+                (1, node) => Some(node),
+                _ => panic!("{which}: not a mark and its node at {i}: {answer:?}"),
+            };
+            let own = exrs_counts.contents()[i] as usize;
+            let (own, after) = rest.split_at(own);
+            stops.push((domains.contents()[i], node, own.to_vec()));
+            rest = after;
+        }
+        assert!(rest.is_empty(), "{which}: {answer:?}");
+        Ok(stops)
     }
 }
 
@@ -121,7 +165,7 @@ pub fn read(profile: &[u8], ingress: u16, include: &[u8], which: impl Display) -
         profile,
         ingress,
         include,
-        buffers: buffers([17; 3]),
+        buffers: buffers([17; 4], include.len().min(1_024) + 1),
     };
     case.read(which)
 }
@@ -139,88 +183,9 @@ pub fn five_domains() -> Vec<u8> {
     file(0, &domains, &[])
 }
 
-/// The list, or number and place.
-pub type Written = Result<Vec<u8>, (u32, u32)>;
-
-pub struct WriteList<'a> {
-    pub profile: &'a [u8],
-    pub domains: &'a [u16],
-    pub pinned: &'a [u8],
-    pub pins: &'a [u32],
-    pub out: Lent<u8>,
-}
-
-impl Case for WriteList<'_> {
-    type Call = fn(&[u8], &[u16], &[u8], &[u32], &mut [u8], &mut [u32; 2]) -> u32;
-    type Answer = Answer<2, Lent<u8>>;
-
-    const LIBRARY: Self::Call = crate::write_list;
-    const REFERENCE: Self::Call = reference::write_list;
-
-    fn answer(&self, call: Self::Call) -> Self::Answer {
-        Answer::of(self.out.clone(), |out, numbers| {
-            call(
-                self.profile,
-                self.domains,
-                self.pinned,
-                self.pins,
-                out.buffer(),
-                numbers,
-            )
-        })
-    }
-}
-
-impl WriteList<'_> {
-    /// What is written, or number and place, the same from both programs and
-    /// held to what is true of every writing.
-    #[track_caller]
-    pub fn write(&self, which: impl Display) -> Written {
-        let answer = compare(self, &which);
-        let (place, length) = (answer.numbers[0], answer.numbers[1] as usize);
-        let kept = answer.buffers.kept_past(length, &self.out);
-        assert!(kept, "{which}: wrote more than the result: {answer:?}");
-        if answer.number != 0 {
-            assert_eq!(length, 0, "{which}: {answer:?}");
-            return Err(answer.verdict());
-        }
-        assert!(place == 0 && length <= 1024, "{which}: {answer:?}");
-        Ok(answer.buffers.contents()[..length].to_vec())
-    }
-}
-
-/// What lies in the buffer before a call: no byte of it is 0, so that a zero
-/// not written is noticed.
-pub fn old_bytes(capacity: usize) -> Lent<u8> {
-    Lent::new(&vec![0xAA; capacity])
-}
-
-/// Capacity for every list: 16 domains, each with its AS and 13 area bytes,
-/// and 15 entry constraints.
-pub const LONGEST: usize = 16 * (8 + 20) + 15 * 8;
-
-/// A writing with capacity to spare.
-#[track_caller]
-pub fn write(profile: &[u8], domains: &[u16], pinned: &[u8], pins: &[u32]) -> Written {
-    let case = WriteList {
-        profile,
-        domains,
-        pinned,
-        pins,
-        out: old_bytes(LONGEST + 9),
-    };
-    case.write(format_args!("{domains:?}, {pinned:?}, {pins:08X?}"))
-}
-
-/// The sequence that the writer is given.
-pub fn sequence(domains: &[u16], pinned: &[u8], pins: &[u32]) -> Reading {
-    let stop = |i: usize| (domains[i], (pinned[i] == 1).then_some(pins[i]));
-    Ok((0..domains.len()).map(stop).collect())
-}
-
-/// Domains without entry constraints.
+/// Domains without entry constraints and EXRS.
 pub fn bare(domains: impl IntoIterator<Item = u16>) -> Reading {
-    Ok(domains.into_iter().map(|domain| (domain, None)).collect())
+    without_exrs(domains.into_iter().map(|domain| (domain, None)))
 }
 
 /// Number and place; of a result both are 0.

@@ -1,6 +1,6 @@
 //! first and next: the C calls, and one of them made by both programs.
 
-use crate::by_hand::desired::any_desired;
+use crate::by_hand::desired::some_desired;
 use crate::compare::{compare, Answer, Case, Lent};
 use crate::floats::nearest;
 use crate::request::{call, declare};
@@ -114,7 +114,7 @@ impl PathCase<'_> {
         assert_eq!(place, 0, "{which}: {answer:?}");
         assert_eq!(ends, (self.request.source, self.request.destination));
         assert_eq!(float_bits, nearest(total), "{which}");
-        let may_be = round == 1 || round == 2 && any_desired(self.request.exclude);
+        let may_be = round == 1 || round == 2 && some_desired(&self.request);
         assert!(may_be, "{which}: {answer:?}");
         Ok((path, total, round))
     }

@@ -230,7 +230,7 @@ impl WritePcRep<'_> {
 /// A writing with room for the longest message.
 #[track_caller]
 pub fn write(reply: &Reply, which: impl Display) -> Result<Vec<u8>, Told> {
-    let out = crate::lists::old_bytes(65_536);
+    let out = crate::writing::old_bytes(65_536);
     WritePcRep { reply: *reply, out }.write(which)
 }
 

@@ -4,7 +4,7 @@ use crate::by_hand::messages::{bandwidth, end_points, iro, message, metric, rp, 
 use crate::compare::{compare, Answer, Case, Lent};
 use crate::metrics::{self, gather, MetricBuffers};
 use crate::{paths, tree};
-use reference::generate::{PcReqFields, Told};
+use reference::generate::{NextCase, PcReqFields, RequestCase, Told};
 use reference::{PcReq, Request};
 use std::fmt::Display;
 
@@ -292,6 +292,61 @@ pub fn listing(asked: &PcReq, length: usize, most: usize) -> (Vec<paths::Path>, 
         }
         found.push((path, numbers[1], numbers[3]));
     }
+}
+
+/// The buffers that a generated case brings for its tree.
+fn lent(case: &RequestCase) -> tree::Buffers {
+    (
+        Lent::new(&case.level),
+        Lent::new(&case.address),
+        Lent::new(&case.reachable),
+        Lent::new(&case.cost),
+    )
+}
+
+/// The three calls through a message, all they leave the same from both
+/// programs; and, where the message carries the request whole, the same as the
+/// library's calls on that request. Their numbers and places.
+#[track_caller]
+pub fn ask(next: &NextCase, message: &[u8], carries: bool, which: &str) -> [(u32, u32); 3] {
+    let request = next.request.request();
+    let asked = PcReq {
+        profile: request.profile,
+        ingress: request.ingress,
+        message,
+    };
+    let buffers = lent(&next.request);
+    let tree = AskTree {
+        asked,
+        buffers: buffers.clone(),
+    };
+    let tree = compare(&tree, which);
+    let path = |given, path: &[u32]| {
+        let ask = AskPath {
+            asked,
+            given,
+            path: Lent::new(path),
+        };
+        compare(&ask, which)
+    };
+    let first = path(None, &next.request.path);
+    let after = path(Some(&next.given), &next.path);
+    if carries {
+        let base = tree::TreeCase { request, buffers }.answer(tree::TreeCase::LIBRARY);
+        assert!(tree == base, "{which}: tree {tree:?}, {base:?}");
+        let base = |given, path: &[u32]| {
+            let path = Lent::new(path);
+            let case = paths::PathCase {
+                request,
+                given,
+                path,
+            };
+            case.answer(paths::PathCase::LIBRARY)
+        };
+        assert_eq!(first, base(None, &next.request.path), "{which}");
+        assert_eq!(after, base(Some(&next.given), &next.path), "{which}");
+    }
+    [tree.verdict(), first.verdict(), after.verdict()]
 }
 
 /// The plainest PCReq that carries a request whose lists are of whole words.

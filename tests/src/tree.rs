@@ -1,6 +1,6 @@
 //! The tree: the C call, and one tree asked of both programs.
 
-use crate::by_hand::desired::any_desired;
+use crate::by_hand::desired::some_desired;
 use crate::compare::{compare, Answer, Case, Lent};
 use crate::request::{call, declare};
 use reference::Request;
@@ -165,7 +165,7 @@ impl TreeCase<'_> {
             && (tree.round == 1
                 || tree.round == 2
                     && tree.hops_examined.is_multiple_of(2)
-                    && any_desired(self.request.exclude))
+                    && some_desired(&self.request))
     }
 }
 

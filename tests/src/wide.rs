@@ -3,12 +3,13 @@
 
 use crate::by_hand::ask;
 use crate::compare::{compare, Answer, Case, Lent};
-use crate::lists::{read, verdict, write};
+use crate::lists::{read, verdict};
 use crate::paths::{buffer, path_length, PathCase, LONGEST};
 use crate::pcreq::{carry, AskPath, AskTree};
 use crate::rows::row_path;
 use crate::series::SeriesCase;
 use crate::tree::{buffers, build, Tree, TreeCase, MOST_ENTRIES};
+use crate::writing::write;
 use reference::Call::{First, Next};
 use reference::{PcReq, Request};
 

@@ -3,7 +3,7 @@
 //! can stand and at a later one.
 
 use crate::by_hand::{domain, file, hop, B1000};
-use crate::lists::{entry, excluded, is_is, long_as, marked, ospf, short_as};
+use crate::lists::{entry, excluded, exrs, is_is, long_as, marked, ospf, short_as};
 use reference::generate::Random;
 use reference::Request;
 
@@ -127,7 +127,7 @@ fn wrong_in_form() -> Vec<(Vec<u8>, u32)> {
     vec![
         (vec![1, 8, 0], 23),
         (long_as(64497)[..7].to_vec(), 23),
-        (vec![33, 4, 0, 0], 24),
+        (vec![34, 4, 0, 0], 24),
         (vec![5, 4, 0, 0], 25),
         (vec![7, 8, 14, 0], 26),
         (vec![7, 8, 3, 0, 0x49, 0, 1, 1], 26),
@@ -151,12 +151,15 @@ fn includes() -> Vec<Part<Vec<u8>>> {
     form.push((marked(long_as(64497)), 27));
     form.push((marked(vec![1, 8, 0, 0, 0, 0, 33, 0]), 27));
     form.push((excluded(7, 31), 26));
+    form.push((vec![33, 4, 0, 0], 26));
+    let nothing = exrs(&[marked(short_as(9))]);
     let meaning = vec![
         (short_as(9), 28),
         (ospf(0), 28),
         (is_is(&[0x49, 0, 1]), 28),
         (long_as(65536), 29),
         (entry(7), 32),
+        (nothing.clone(), 42),
     ];
     let all_short: Vec<u8> = (64497..64512).flat_map(short_as).collect();
     let all_long: Vec<u8> = (64497..64512).flat_map(long_as).collect();
@@ -175,6 +178,10 @@ fn includes() -> Vec<Part<Vec<u8>>> {
             (31, 68),
         ),
         ([all_long, long_as(65536), ospf(0)].concat(), (31, 128)),
+        (exrs(&[vec![34, 4, 0, 0]]), (24, 4)),
+        ([fine.clone(), exrs(&[excluded(7, 33)])].concat(), (26, 8)),
+        ([entry(7), nothing.clone()].concat(), (32, 0)),
+        ([nothing, entry(7)].concat(), (42, 0)),
         ([entry(7), entry(7)].concat(), (32, 8)),
         (
             [fine.clone(), entry(7), fine.clone(), entry(8)].concat(),
@@ -202,6 +209,7 @@ fn excludes() -> Vec<Part<Vec<u8>>> {
     form.extend(marked_too);
     form.push((entry(7), 26));
     form.push((vec![1, 8, 0, 0, 0, 0, 32, 2], 26));
+    form.push((exrs(&[short_as(9)]), 24));
     let accepted = [Vec::new(), fine.clone(), marked(excluded(7, 31))].map(|list| (list, None));
     let refused = [vec![0; 1025], fine.repeat(257)].map(|list| (list, Some((22, 1))));
     [&accepted[..], &first_and_later(&fine, form), &refused].concat()

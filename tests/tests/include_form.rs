@@ -2,7 +2,7 @@
 //! that a rule looks at, every length, and each refusal at each offset. The
 //! library is held to the reference, and to what the rule says.
 
-use tests::by_hand::{domain, file};
+use tests::by_hand::{domain, file, without_exrs};
 use tests::compare::Counts;
 use tests::lists::{bare, entry, five_domains, is_is, long_as, ospf, read, short_as, verdict};
 
@@ -109,8 +109,8 @@ fn ignored_bytes_are_not_looked_at() {
         &[7, 8, 3, 0xFF, 0x49, 0, 1, 0],
     ];
     let reading = read(&five_domains(), 0, &list.concat(), "ignored bytes set");
-    let expected = vec![(0, None), (2, Some(0x0102_0304)), (3, None)];
-    assert_eq!(reading, Ok(expected));
+    let expected = without_exrs([(0, None), (2, Some(0x0102_0304)), (3, None)]);
+    assert_eq!(reading, expected);
 }
 
 /// A list of subobjects that add nothing, cut to every length.
@@ -179,7 +179,7 @@ fn faults() -> Vec<Fault> {
     vec![
         form(23, &[5, 8, 0], &[]),
         form(23, &long_as(100)[..7], &[]),
-        form(24, &[33, 4, 0, 100], &[0xFF; 5]),
+        form(24, &[34, 4, 0, 100], &[0xFF; 5]),
         form(25, &[5, 4, 0, 0], &[0xFF; 5]),
         form(26, &[7, 8, 14, 0], &[0xFF; 5]),
         form(26, &[1, 8, 0, 0, 0, 0, 31, 0], &[0xFF; 5]),

@@ -7,8 +7,9 @@ use reference::Reply;
 use tests::by_hand::messages::hex;
 use tests::by_hand::replies;
 use tests::compare::{seeds, Counts, Kinds, Lent};
-use tests::lists::{old_bytes, verdict};
+use tests::lists::verdict;
 use tests::pcrep::{expected, read, write, WritePcRep, BASE};
+use tests::writing::old_bytes;
 
 /// What must be answered, by document 02's order.
 fn verdict_of(case: &ReplyCase) -> (u32, u32) {

@@ -4,9 +4,10 @@
 use reference::generate::{self, PcRepFields};
 use reference::Reply;
 use tests::by_hand::replies;
-use tests::lists::{old_bytes, verdict};
+use tests::lists::verdict;
 use tests::pcrep::{expected, read, write, write_pcrep, WritePcRep, BASE};
 use tests::stack;
+use tests::writing::old_bytes;
 
 /// The METRICs' parts in every combination of counts: 37 before any other check.
 #[test]

@@ -1,69 +1,15 @@
 //! The calls through a PCReq: the library against the reference, and against
 //! its own calls on the request that the message carries.
 
-use reference::generate::{self, NextCase, RequestCase};
+use reference::generate;
 use reference::{PcReq, Request};
 use tests::by_hand::messages::*;
 use tests::by_hand::{S, Z};
-use tests::compare::{compare, seeds, Case, Counts, Kinds, Lent};
-use tests::paths::{buffer, path_length, PathCase};
-use tests::pcreq::{carry, listing, AskPath, AskTree};
-use tests::tree::{buffers, Buffers, TreeCase};
+use tests::compare::{compare, seeds, Case, Counts, Kinds};
+use tests::paths::{buffer, path_length};
+use tests::pcreq::{ask, carry, listing, AskPath, AskTree};
+use tests::tree::{buffers, TreeCase};
 use tests::{paths, wrong};
-
-fn lent(case: &RequestCase) -> Buffers {
-    (
-        Lent::new(&case.level),
-        Lent::new(&case.address),
-        Lent::new(&case.reachable),
-        Lent::new(&case.cost),
-    )
-}
-
-/// The three calls through a message, all they leave the same from both
-/// programs; and, where the message carries the request whole, the same as the
-/// library's calls on that request. Their numbers and places.
-#[track_caller]
-fn ask(next: &NextCase, message: &[u8], carries: bool, which: &str) -> [(u32, u32); 3] {
-    let request = next.request.request();
-    let asked = PcReq {
-        profile: request.profile,
-        ingress: request.ingress,
-        message,
-    };
-    let buffers = lent(&next.request);
-    let tree = AskTree {
-        asked,
-        buffers: buffers.clone(),
-    };
-    let tree = compare(&tree, which);
-    let path = |given, path: &[u32]| {
-        let ask = AskPath {
-            asked,
-            given,
-            path: Lent::new(path),
-        };
-        compare(&ask, which)
-    };
-    let first = path(None, &next.request.path);
-    let after = path(Some(&next.given), &next.path);
-    if carries {
-        let base = TreeCase { request, buffers }.answer(TreeCase::LIBRARY);
-        assert!(tree == base, "{which}: tree {tree:?}, {base:?}");
-        let base = |given, path: &[u32]| {
-            let path = Lent::new(path);
-            let case = PathCase {
-                request,
-                given,
-                path,
-            };
-            case.answer(PathCase::LIBRARY)
-        };
-        assert_eq!(first, base(None, &next.request.path), "{which}");
-        assert_eq!(after, base(Some(&next.given), &next.path), "{which}");
-    }
-    [tree.verdict(), first.verdict(), after.verdict()]
-}
 
 #[test]
 fn generated_messages() {
@@ -184,7 +130,11 @@ fn the_first_thing_wrong_is_told() {
     });
     println!("\npcreq_first: {left_out} with lists not of whole words left out");
     // Each list there that ends too early isn't of whole words.
-    let checks = (10..=22).chain(24..=32).chain([34]).chain(36..=40);
+    let checks = (10..=22)
+        .chain(24..=32)
+        .chain([34])
+        .chain(36..=40)
+        .chain([42]);
     let numbers: Vec<u32> = [0, 1].into_iter().chain(checks).collect();
     counts.cover("pcreq_first, the first thing wrong", &numbers);
 }

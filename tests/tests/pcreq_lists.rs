@@ -7,7 +7,7 @@ use reference::PcReq;
 use tests::by_hand::messages::*;
 use tests::by_hand::{profile_w, Q, S, SHORT, U, Z};
 use tests::compare::{compare, seeds, Counts};
-use tests::lists::{entry, excluded, is_is, long_as, marked, ospf, short_as, verdict};
+use tests::lists::{entry, excluded, exrs, is_is, long_as, marked, ospf, short_as, verdict};
 use tests::paths::{buffer, LONGEST};
 use tests::pcreq::{read, AskPath};
 
@@ -28,7 +28,7 @@ fn faults() -> Vec<(u32, Vec<u8>)> {
         (23, vec![5, 8, 0, 0]),
         (23, vec![1, 8, 0, 0]),
         (23, is_is(&[1; 5])[..8].to_vec()),
-        (24, vec![33, 4, 0, 0]),
+        (24, vec![34, 4, 0, 0]),
         (24, vec![0x80, 8, 0, 0]),
         (25, vec![5, 4, 0, 0]),
         (25, vec![32, 8, 0, 0]),
@@ -45,6 +45,9 @@ fn own_faults() -> [Vec<(u32, Vec<u8>)>; 2] {
     [
         vec![
             (26, excluded(S, 31)),
+            (26, vec![33, 4, 0, 0]),
+            (25, vec![33, 3, 0, 0]),
+            (27, vec![0xA1, 3, 0, 0]),
             (27, marked(short_as(9))),
             (27, marked(long_as(9))),
             (27, vec![0x87, 8, 0, 0]),
@@ -54,6 +57,7 @@ fn own_faults() -> [Vec<(u32, Vec<u8>)>; 2] {
             (26, vec![1, 8, 0, 0, 0, 0, 32, 0]),
             (26, marked(vec![1, 8, 0, 0, 0, 0, 32, 2])),
             (25, vec![0xA0, 8, 0, 0]),
+            (24, exrs(&[short_as(9)])),
             (26, marked(excluded(S, 255))),
         ],
     ]

@@ -4,8 +4,10 @@
 
 use reference::generate::{self, Random};
 use tests::by_hand::{domain, file, profile_w, SHORT};
-use tests::compare::{seeds, Counts, Kinds, Lent};
-use tests::lists::{bare, buffers, domain_kind, entry, ospf, read, verdict, ReadInclude};
+use tests::compare::{seeds, Counts, Kinds};
+use tests::lists::{
+    bare, buffers, buffers_of, domain_kind, entry, ospf, read, verdict, ReadInclude,
+};
 use tests::stack;
 
 /// Document 01's numbers for a call that takes a profile, an ingress and an
@@ -25,11 +27,7 @@ fn generated_lists() {
             profile: &case.profile,
             ingress: case.ingress,
             include: &case.include,
-            buffers: (
-                Lent::new(&case.domains),
-                Lent::new(&case.pinned),
-                Lent::new(&case.pins),
-            ),
+            buffers: buffers_of(&case),
         }
         .read(format_args!("include_case({seed})"));
         counts.add(verdict(&reading));
@@ -37,7 +35,12 @@ fn generated_lists() {
         subobject_kinds(&case.include, &mut kinds);
         if let Ok(stops) = &reading {
             kinds.add(domain_kind(stops.len()));
-            let lent = [case.domains.len(), case.pinned.len(), case.pins.len()];
+            let lent = [
+                case.domains.len(),
+                case.pinned.len(),
+                case.pins.len(),
+                case.exrs_counts.len(),
+            ];
             kinds.add(capacity_kind(lent, stops.len()));
         }
     }
@@ -76,9 +79,9 @@ fn length_kind(list: &[u8]) -> &'static str {
     }
 }
 
-fn capacity_kind(lent: [usize; 3], needed: usize) -> String {
+fn capacity_kind(lent: [usize; 4], needed: usize) -> String {
     let kind = match lent {
-        [a, b, c] if a != b || b != c => "different",
+        [a, b, c, d] if a != b || b != c || c != d => "different",
         [a, ..] if a == needed => "all exact",
         _ => "all more",
     };
@@ -144,7 +147,7 @@ fn planned_lists_give_what_they_were_made_for() {
             profile: &case.profile,
             ingress: case.ingress,
             include: &case.include,
-            buffers: buffers(lent),
+            buffers: buffers(lent, 0),
         }
         .read(format_args!("planned_include({seed}), {lent:?}"));
         let fits = lent.iter().all(|&capacity| capacity >= needed);
@@ -157,7 +160,7 @@ fn planned_lists_give_what_they_were_made_for() {
         kinds.add(capacity);
         if let Ok(stops) = reading {
             kinds.add(domain_kind(stops.len()));
-            let constrained = stops.iter().filter(|(_, node)| node.is_some()).count();
+            let constrained = stops.iter().filter(|stop| stop.1.is_some()).count();
             kinds.add(format!("{constrained:>2} entry constraints"));
         }
     }
@@ -179,21 +182,22 @@ const CAPACITIES: [&str; 6] = [
     "capacity more in one buffer",
 ];
 
-/// The capacities of the three buffers, and which kind of choice they are.
-fn planned_capacity(random: &mut Random, needed: usize) -> ([usize; 3], &'static str) {
-    let which = random.below(3);
+/// The capacities of the four buffers that have an element for each domain, and
+/// which kind of choice they are.
+fn planned_capacity(random: &mut Random, needed: usize) -> ([usize; 4], &'static str) {
+    let which = random.below(4);
     let but = |capacity| {
-        let mut lent = [needed; 3];
+        let mut lent = [needed; 4];
         lent[which] = capacity;
         lent
     };
     match random.below(12) {
-        0 => ([0; 3], CAPACITIES[0]),
-        1 => ([needed - 1; 3], CAPACITIES[1]),
+        0 => ([0; 4], CAPACITIES[0]),
+        1 => ([needed - 1; 4], CAPACITIES[1]),
         2 => (but(random.below(needed)), CAPACITIES[4]),
         3..=5 => (but(needed + random.between(1, 20)), CAPACITIES[5]),
-        6..=8 => ([needed + random.between(1, 20); 3], CAPACITIES[3]),
-        _ => ([needed; 3], CAPACITIES[2]),
+        6..=8 => ([needed + random.between(1, 20); 4], CAPACITIES[3]),
+        _ => ([needed; 4], CAPACITIES[2]),
     }
 }
 
@@ -208,7 +212,7 @@ fn a_damaged_profile_is_told_whatever_the_rest() {
             profile: &damaged.bytes,
             ingress: random.pick(&[0, 1, 64, u16::MAX]),
             include: &include,
-            buffers: buffers([random.pick(&[0, 16]); 3]),
+            buffers: buffers([random.pick(&[0, 16]); 4], 0),
         }
         .read(format_args!("damaged_profile({seed})"));
         let expected = (damaged.number, damaged.place as u32);
@@ -228,12 +232,12 @@ fn capacity_is_judged_on_each_buffer() {
             .flat_map(|i| [entry(i), ospf(i)].concat())
             .collect();
         let capacities = [0, needed - 1, needed, needed + 1, 40];
-        for lent in triples(&capacities) {
+        for lent in quadruples(&capacities) {
             let case = ReadInclude {
                 profile: &profile,
                 ingress: 0,
                 include: &list,
-                buffers: buffers(lent),
+                buffers: buffers(lent, 0),
             };
             let found = verdict(&case.read(format_args!("{needed} into {lent:?}")));
             let fits = lent.iter().all(|&capacity| capacity >= needed);
@@ -245,15 +249,13 @@ fn capacity_is_judged_on_each_buffer() {
     counts.cover("read_include, capacities", &[0, 34]);
 }
 
-/// Every choice of three, with repetition.
-fn triples(of: &[usize]) -> Vec<[usize; 3]> {
-    let mut all = Vec::new();
-    for &a in of {
-        for &b in of {
-            all.extend(of.iter().map(|&c| [a, b, c]));
-        }
-    }
-    all
+/// Every choice of four, with repetition.
+fn quadruples(of: &[usize]) -> Vec<[usize; 4]> {
+    let count = of.len();
+    let digit = |code: usize, i| of[code / count.pow(i) % count];
+    (0..count.pow(4))
+        .map(|code| [0, 1, 2, 3].map(|i| digit(code, i)))
+        .collect()
 }
 
 #[test]
@@ -268,7 +270,8 @@ fn a_length_is_more_than_32_bits() {
 #[test]
 fn a_capacity_is_more_than_32_bits() {
     let (mut domains, mut pinned, mut pins) = ([7; 3], vec![0; 1 << 32], [7; 3]);
-    let mut numbers = [7; 2];
+    let (mut exrs_counts, mut exrs) = ([7; 3], vec![0; 1 << 32]);
+    let mut numbers = [7; 3];
     let number = tests::read_include(
         &profile_w(),
         0,
@@ -276,10 +279,12 @@ fn a_capacity_is_more_than_32_bits() {
         &mut domains,
         &mut pinned,
         &mut pins,
+        &mut exrs_counts,
+        &mut exrs,
         &mut numbers,
     );
-    assert_eq!((number, numbers), (0, [0, 3]));
-    assert_eq!((domains, pins), ([0, 1, 2], [0; 3]));
+    assert_eq!((number, numbers), (0, [0, 3, 0]));
+    assert_eq!((domains, pins, exrs_counts), ([0, 1, 2], [0; 3], [0; 3]));
 }
 
 #[test]
@@ -295,10 +300,13 @@ fn inputs_may_lie_at_any_address() {
 }
 
 #[test]
-fn only_the_two_numbers_are_stored() {
-    for (list, expected) in [(&SHORT[..], [7, 0, 3, 7]), (&SHORT[..6], [7, 4, 0, 7])] {
-        let mut around = [7; 4];
-        let numbers = (&mut around[1..3]).try_into().expect("two numbers");
+fn only_the_three_numbers_are_stored() {
+    for (list, expected) in [
+        (&SHORT[..], [7, 0, 3, 0, 7]),
+        (&SHORT[..6], [7, 4, 0, 0, 7]),
+    ] {
+        let mut around = [7; 5];
+        let numbers = (&mut around[1..4]).try_into().expect("three numbers");
         let (mut domains, mut pinned, mut pins) = ([0; 3], [0; 3], [0; 3]);
         tests::read_include(
             &profile_w(),
@@ -307,6 +315,8 @@ fn only_the_two_numbers_are_stored() {
             &mut domains,
             &mut pinned,
             &mut pins,
+            &mut [0; 3],
+            &mut [],
             numbers,
         );
         assert_eq!(around, expected);
@@ -318,7 +328,8 @@ fn stack_of_at_most_16_kib() {
     let largest = generate::largest_request(4);
     let used = |profile: &[u8], ingress, include: &[u8]| {
         let (mut domains, mut pinned, mut pins) = ([0; 16], [0; 16], [0; 16]);
-        let mut numbers = [0; 2];
+        let (mut exrs_counts, mut exrs) = ([0; 16], [0; 1_024]);
+        let mut numbers = [0; 3];
         stack::bytes_used(|| {
             tests::read_include(
                 profile,
@@ -327,16 +338,19 @@ fn stack_of_at_most_16_kib() {
                 &mut domains,
                 &mut pinned,
                 &mut pins,
+                &mut exrs_counts,
+                &mut exrs,
                 &mut numbers,
             );
         })
     };
-    let generated = (0..500).map(|seed| {
-        let case = generate::include_case(seed);
-        used(&case.profile, case.ingress, &case.include)
-    });
+    let plain = (0..500).map(generate::include_case);
+    let generated = plain.chain((0..500).map(generate::exrs_include_case));
+    let generated = generated.map(|case| used(&case.profile, case.ingress, &case.include));
+    let full = generate::largest_exrs_request(4, 1);
     let most = [
         used(&largest.profile, 0, &largest.include),
+        used(&full.profile, 0, &full.include),
         used(&largest.profile, 0, &ospf(0).repeat(128)),
     ]
     .into_iter()

@@ -4,7 +4,7 @@
 
 use reference::generate::{self, NextCase, Random};
 use reference::Request;
-use tests::by_hand::desired::{all_demanded, any_desired, demanded_alone, Decided, Outcomes};
+use tests::by_hand::desired::{any_desired, demanded_alone, in_round, Decided, Outcomes};
 use tests::compare::{compare, seeds, Answer, Kinds, Lent};
 use tests::lists::{excluded, is_is, long_as, marked, ospf, short_as, verdict};
 use tests::paths::{find_first, find_next, Found, PathCase};
@@ -115,11 +115,9 @@ fn each_round_is_a_request_of_its_own() {
         let which = &format!("round_case({seed})");
         let (tree, first, next) = answers(&request, &case.given, which);
         let round = tree.round;
-        let exclude = match round {
-            1 => all_demanded(request.exclude),
-            _ => demanded_alone(request.exclude),
-        };
+        let (include, exclude) = in_round(&request, round);
         let alone = Request {
+            include: &include,
             exclude: &exclude,
             ..request
         };

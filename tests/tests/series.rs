@@ -206,7 +206,7 @@ fn each_call_gives_the_refusal() {
         assert_eq!(left, buffers, "{request:?}");
         counts.add((number, place));
     });
-    let possible: Vec<u32> = (10..=32).collect();
+    let possible: Vec<u32> = (10..=32).chain([42]).collect();
     counts.cover("series, refused requests", &possible);
 }
 

@@ -12,7 +12,7 @@ use tests::tree::{buffers, build, Tree, TreeCase, MOST_ENTRIES};
 use tests::{stack, wrong};
 
 /// Document 01's numbers for a call that takes a whole request and fills
-/// buffers.
+/// buffers; a list without EXRS is never 42.
 fn all_numbers() -> Vec<u32> {
     [0].into_iter().chain(10..=32).chain([34]).collect()
 }
@@ -120,7 +120,8 @@ fn the_first_thing_wrong_is_told() {
             counts.add(found);
         }
     });
-    counts.cover("tree, the first thing wrong", &all_numbers());
+    let possible = [&all_numbers()[..], &[42]].concat();
+    counts.cover("tree, the first thing wrong", &possible);
     for number in (14..=19).chain(21..=32) {
         assert!(counts.places(number) >= 2, "{number}");
     }
@@ -233,6 +234,8 @@ fn crossing(profile: &[u8], constrained: usize, node: u32) -> Vec<u8> {
         &domains,
         &pinned,
         &[node; 16],
+        &[0; 16],
+        &[],
         &mut out,
         &mut numbers,
     );

@@ -5,21 +5,9 @@
 use reference::generate::{self, Random, WriteCase};
 use tests::by_hand::{domain, file, profile_w, U};
 use tests::compare::{seeds, Counts, Kinds, Lent};
-use tests::lists::{
-    bare, domain_kind, entry, long_as, old_bytes, read, sequence, verdict, write, WriteList,
-    LONGEST,
-};
+use tests::lists::{bare, domain_kind, entry, long_as, read, verdict};
 use tests::stack;
-
-fn of_case(case: &WriteCase, out: Lent<u8>) -> WriteList<'_> {
-    WriteList {
-        profile: &case.profile,
-        domains: &case.domains,
-        pinned: &case.pinned,
-        pins: &case.pins,
-        out,
-    }
-}
+use tests::writing::{old_bytes, sequence, write, WriteList, LONGEST, LONGEST_OF_ALL};
 
 #[test]
 fn generated_sequences() {
@@ -28,7 +16,7 @@ fn generated_sequences() {
     for seed in seeds(24_000) {
         let case = generate::write_case(seed);
         let which = format_args!("write_case({seed})");
-        let written = of_case(&case, Lent::new(&case.out)).write(which);
+        let written = WriteList::of(&case, Lent::new(&case.out)).write(which);
         counts.add(verdict(&written));
         kinds.add(match (&written, case.out.len()) {
             (Err((34, _)), 0) => "capacity 0",
@@ -88,7 +76,7 @@ fn what_is_written_reads_back() {
     for seed in seeds(20_000) {
         let case = generate::valid_write_case(seed);
         let which = format!("valid_write_case({seed})");
-        let list = of_case(&case, Lent::new(&case.out)).write(&which);
+        let list = WriteList::of(&case, Lent::new(&case.out)).write(&which);
         let list = list.unwrap_or_else(|refused| panic!("{which}: {refused:?}"));
         let reading = read(&case.profile, case.domains[0], &list, &which);
         let expected = sequence(&case.domains, &case.pinned, &case.pins);
@@ -98,9 +86,9 @@ fn what_is_written_reads_back() {
         kinds.add(format!("{constrained:>2} entry constraints"));
         longest = longest.max(list.len());
         // Into exactly as many bytes, and into one less.
-        let exact = of_case(&case, old_bytes(list.len())).write(&which);
+        let exact = WriteList::of(&case, old_bytes(list.len())).write(&which);
         assert_eq!(exact, Ok(list.clone()), "{which}");
-        let short = of_case(&case, old_bytes(list.len() - 1)).write(&which);
+        let short = WriteList::of(&case, old_bytes(list.len() - 1)).write(&which);
         assert_eq!(short, Err((34, 0)), "{which}");
     }
     let domains = (1..=16).map(domain_kind);
@@ -124,6 +112,8 @@ fn a_damaged_profile_is_told_whatever_the_rest() {
             domains: &domains,
             pinned: &marks,
             pins: &[],
+            exrs_counts: &[1],
+            exrs: &[],
             out: old_bytes(random.pick(&[0, LONGEST])),
         }
         .write(format_args!("damaged_profile({seed})"));
@@ -163,10 +153,32 @@ fn a_count_is_more_than_32_bits() {
     let (profile, domains, pins) = (profile_w(), [0, 1, 2], [0; 3]);
     let mut numbers = [7; 2];
     let mut out = [0; 24];
-    let number = tests::write_list(&profile, &domains, &zeros, &pins, &mut out, &mut numbers);
-    assert_eq!((number, numbers), (35, [0, 0]));
+    let mut into = |pinned: &[u8], exrs: &[u8]| {
+        let number = tests::write_list(
+            &profile,
+            &domains,
+            pinned,
+            &pins,
+            &[0; 3],
+            exrs,
+            &mut out,
+            &mut numbers,
+        );
+        assert_eq!((number, numbers), (35, [0, 0]));
+    };
+    into(&zeros, &[]);
+    into(&[0; 3], &zeros[..1 << 32]);
     let out = &mut zeros[..1 << 32];
-    let number = tests::write_list(&profile, &domains, &[0; 3], &pins, out, &mut numbers);
+    let number = tests::write_list(
+        &profile,
+        &domains,
+        &[0; 3],
+        &pins,
+        &[0; 3],
+        &[],
+        out,
+        &mut numbers,
+    );
     assert_eq!((number, numbers), (0, [0, 24]));
     let expected = [64496, 64497, 64498].map(long_as);
     assert_eq!(out[..24], expected.concat());
@@ -182,7 +194,17 @@ fn bytes_may_lie_at_any_address() {
         let mut out = [0xAA; 1_000];
         let mut numbers = [7; 2];
         let out = &mut out[offset..];
-        let number = tests::write_list(profile, &domains, marks, &[0; 16], out, &mut numbers);
+        let words = [0; 16];
+        let number = tests::write_list(
+            profile,
+            &domains,
+            marks,
+            &words,
+            &words,
+            &[],
+            out,
+            &mut numbers,
+        );
         assert_eq!((number, numbers[0]), (0, 0), "{offset}");
         let list = &out[..numbers[1] as usize];
         assert_eq!(read(profile, 0, list, offset), bare(0..16), "{offset}");
@@ -195,28 +217,53 @@ fn only_the_two_numbers_are_stored() {
         let mut around = [7; 4];
         let numbers = (&mut around[1..3]).try_into().expect("two numbers");
         let mut out = [0; 16];
-        tests::write_list(&profile_w(), &domains, &[0; 2], &[0; 2], &mut out, numbers);
+        let (profile, words) = (profile_w(), [0; 2]);
+        tests::write_list(
+            &profile,
+            &domains,
+            &[0; 2],
+            &words,
+            &words,
+            &[],
+            &mut out,
+            numbers,
+        );
         assert_eq!(around, expected);
     }
 }
 
 #[test]
 fn stack_of_at_most_16_kib() {
-    let used = |profile: &[u8], domains: &[u16], pinned: &[u8], pins: &[u32]| {
-        let (mut out, mut numbers) = ([0; LONGEST], [0; 2]);
+    let used = |case: &WriteCase| {
+        let (mut out, mut numbers) = ([0; LONGEST_OF_ALL], [0; 2]);
         stack::bytes_used(|| {
-            tests::write_list(profile, domains, pinned, pins, &mut out, &mut numbers);
+            tests::write_list(
+                &case.profile,
+                &case.domains,
+                &case.pinned,
+                &case.pins,
+                &case.exrs_counts,
+                &case.exrs,
+                &mut out,
+                &mut numbers,
+            );
         })
     };
-    let mut pinned = [1; 16];
-    pinned[0] = 0;
-    let sixteen: Vec<u16> = (0..16).collect();
-    let largest = used(&generate::largest_profile(4), &sixteen, &pinned, &[7; 16]);
-    let generated = (0..500).map(|seed| {
-        let case = generate::write_case(seed);
-        used(&case.profile, &case.domains, &case.pinned, &case.pins)
-    });
-    let most = generated.fold(largest, usize::max);
+    let mut largest = WriteCase {
+        profile: generate::largest_profile(4),
+        domains: (0..16).collect(),
+        pinned: vec![1; 16],
+        pins: vec![7; 16],
+        exrs_counts: vec![0; 16],
+        exrs: Vec::new(),
+        out: Vec::new(),
+    };
+    largest.pinned[0] = 0;
+    let plain = (0..500).map(generate::write_case);
+    let generated = plain.chain((0..500).map(generate::exrs_write_case));
+    let most = generated
+        .map(|case| used(&case))
+        .fold(used(&largest), usize::max);
     println!("\nwrite_list: {most} bytes of stack");
     assert!(most <= 16 * 1024);
 }

@@ -3,10 +3,8 @@
 
 use tests::by_hand::{domain, file};
 use tests::compare::Counts;
-use tests::lists::{
-    entry, is_is, long_as, old_bytes, ospf, read, sequence, verdict, write, WriteList, Written,
-    LONGEST,
-};
+use tests::lists::{entry, is_is, long_as, ospf, read, verdict};
+use tests::writing::{old_bytes, sequence, write, WriteList, Written, LONGEST};
 
 // Every short sequence of a few domains.
 
@@ -168,6 +166,8 @@ fn checks_come_in_order() {
             domains,
             pinned: &[0, 0][..domains.len()],
             pins: &[0, 0][..domains.len()],
+            exrs_counts: &[0, 0][..domains.len()],
+            exrs: &[],
             out: old_bytes(capacity),
         }
         .write(format_args!("{expected:?}"));
@@ -241,6 +241,8 @@ fn every_capacity() {
             domains: &domains,
             pinned: &pinned,
             pins: &pins,
+            exrs_counts: &[0; 16],
+            exrs: &[],
             out: old_bytes(capacity),
         };
         case.write(capacity)

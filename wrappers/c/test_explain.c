@@ -10,7 +10,7 @@ static yq_message out;
 
 static void of_profiles_and_lists(void)
 {
-    static const uint8_t unknown[] = {33, 4, 0, 0};
+    static const uint8_t unknown[] = {34, 4, 0, 0};
     yq_bytes list = {unknown, sizeof unknown};
     yq_sequence sequence = {.count = 0};
     yq_list written;
@@ -26,8 +26,8 @@ static void of_profiles_and_lists(void)
                 "record, from 0, domain records first)"));
     EXPECT(says(yq_profile_read_include(&w, 0, list, &sequence),
                 "refused: number 24, place 0: subobject's type not 1 (IPv4), 5 or "
-                "32 (AS), 6 (OSPF area) or 7 (IS-IS area) (place: offset in the "
-                "include list)"));
+                "32 (AS), 6 (OSPF area), 7 (IS-IS area) or, outside an EXRS, 33 "
+                "(EXRS) (place: offset in the include list)"));
     EXPECT(strstr(yq_meaning(YQ_CALL_WRITE_LIST, 35, 0), "can be written"));
     EXPECT(yq_profile_write_list(&w, &sequence, &written).call
            == YQ_CALL_WRITE_LIST);

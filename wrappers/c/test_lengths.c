@@ -165,7 +165,7 @@ static void damaged(void)
     static const uint8_t model[] = {0x20, 3, 0, 96, 9, 0x10, 0, 8, 0, 0, 0, 0, XRO,
                                     HUNDRED, ENDS, IRO, RP, ENDS_AT(S, U),
                                     METRIC(2, 1, 0x41, 0x60)};
-    uint32_t answers[42] = {0};
+    uint32_t answers[43] = {0};
     for (size_t i = 0; i < 200000; i++) {
         size_t count = below(4) == 0 ? below(sizeof model + 1) : sizeof model;
         uint8_t *bytes = (uint8_t *)malloc(count == 0 ? 1 : count);

@@ -203,7 +203,7 @@ static void requests_refused(void)
     refused(PCREQ(RP, ENDS, METRIC(1, 0, 0x80, 0)), 21, 1);
     refused(framed(3, include, sizeof include), 22, 0);
     refused(framed(3, exclude, sizeof exclude), 22, 1);
-    refused(PCREQ(RP, ENDS, 10, 0x12, 0, 12, 32, 4, 0xFB, 0xF1, 33, 4, 0, 0), 24, 4);
+    refused(PCREQ(RP, ENDS, 10, 0x12, 0, 12, 32, 4, 0xFB, 0xF1, 34, 4, 0, 0), 24, 4);
     carried(PCREQ(RP, ENDS, 10, 0x12, 0, 12, 32, 4, 0xFB, 0xF1, 32, 4, 0xFB, 0xF0),
             30, 4);
     EXPECT(is(yq_profile_pcreq_tree(&w, 3, asked, &tree), 20, 0));

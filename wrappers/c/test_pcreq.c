@@ -101,16 +101,18 @@ static void vectors(void)
     EXPECT(same_bytes(written(), expected));
 }
 
-/* Subobjects of every type, of right form in either list. */
+/* Subobjects of every type, of right form in either list but for an EXRS, which
+ * stands in an include list alone. */
 static size_t draw_list(uint8_t *list, bool excluding)
 {
-    static const uint8_t pieces[][12] = {
+    static const uint8_t pieces[][16] = {
         {1, 8, 10, 0, 0, 1, 32, 1}, {5, 8, 9, 9, 0, 1, 2, 3}, {6, 8, 9, 9, 0, 0, 0, 4},
         {32, 4, 0xFB, 0xF1}, {7, 8, 3, 9, 0x49, 0, 1, 0},
-        {7, 12, 5, 9, 1, 2, 3, 4, 5, 0, 0, 0}};
+        {7, 12, 5, 9, 1, 2, 3, 4, 5, 0, 0, 0},
+        {33, 16, 9, 9, 0x81, 8, 10, 0, 0, 1, 24, 1, 32, 4, 0xFB, 0xF1}};
     size_t count = 0;
-    for (uint32_t left = below(4) == 0 ? below(80) : below(5); left > 0; left--) {
-        const uint8_t *piece = pieces[below(6)];
+    for (uint32_t left = below(4) == 0 ? below(60) : below(5); left > 0; left--) {
+        const uint8_t *piece = pieces[below(excluding ? 6 : 7)];
         memcpy(list + count, piece, piece[1]);
         if (excluding && below(2) == 0)
             list[count] |= 0x80;
@@ -171,7 +173,9 @@ static void refused(uint32_t number, uint32_t place)
 static void refusals(void)
 {
     static const uint8_t zeros[70000] = {0};
-    static const uint8_t wrong[] = {32, 4, 0xFB, 0xF1, 33, 4, 0, 0};
+    static const uint8_t wrong[] = {32, 4, 0xFB, 0xF1, 34, 4, 0, 0};
+    static const uint8_t stretch[] = {33, 8, 0, 0, 32, 4, 0xFB, 0xF1};
+    static const uint8_t nothing[] = {33, 4, 0, 0};
     static const uint8_t loose[] = {32, 4, 0xFB, 0xF1, 0x80 | 32, 4, 0, 0};
     static const uint8_t attribute[] = {1, 8, 192, 0, 2, Q, 32, 0};
     static const struct {
@@ -186,6 +190,8 @@ static void refusals(void)
         {{zeros, 1028}, {22, 0}, {22, 1}},
         {{zeros, 1024}, {24, 0}, {24, 0}},
         {BYTES(wrong), {24, 4}, {24, 4}},
+        {BYTES(stretch), {0, 0}, {24, 0}},
+        {BYTES(nothing), {26, 0}, {24, 0}},
         {BYTES(loose), {27, 4}, {0, 0}},
         {BYTES(attribute), {0, 0}, {26, 0}},
     };

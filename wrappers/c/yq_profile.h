@@ -1,7 +1,7 @@
 /*
  * Yachayniq for C: a profile, a request, and the six calls on them, with every
- * buffer as large as it can need to be. yq_series.h has many calls for paths in
- * one, yq_messages.h the calls on messages.
+ * buffer as large as it can need to be. yq_exrs.h makes the EXRS of a sequence,
+ * yq_series.h has many calls for paths in one, yq_messages.h those on messages.
  *
  *     yq_profile profile;
  *     yq_answer answer = yq_profile_open(&profile, bytes, count);
@@ -21,9 +21,10 @@
  * A function takes a few hundred bytes of stack beside those of the library's
  * call, which takes up to 16 KiB; where it takes more, its comment says so.
  *
- * An exclusion with X set is only desired: if there is one, and no path keeps
- * the bound with all exclusions, only those with X clear count, and the tree
- * and the paths are of round 2, else of round 1.
+ * An exclusion with X set is only desired: if there is one, in the exclude list
+ * or in an EXRS of the include list, and no path keeps the bound with all
+ * exclusions, only those with X clear count, and the tree and the paths are of
+ * round 2, else of round 1.
  */
 #ifndef YQ_PROFILE_H
 #define YQ_PROFILE_H
@@ -65,14 +66,18 @@ typedef struct {
     float bound;      /* the most that a path may cost */
 } yq_request;
 
-/* A sequence of domains, each with the node to enter it through if one is set. */
+/* A sequence of domains, each with the node to enter it through if one is set,
+ * and with what is excluded for it alone: its EXRS, which yq_exrs.h makes and
+ * takes apart. */
 typedef struct {
     size_t count;
     struct {
         uint16_t domain;
         bool pinned;
         uint32_t pin;
+        uint32_t exrs_count; /* how many bytes of EXRS it has; 0: none */
     } stops[YQ_DOMAINS];
+    uint8_t exrs[YQ_LIST]; /* the EXRS of all stops, in order, back to back */
 } yq_sequence;
 
 typedef struct {
@@ -175,20 +180,31 @@ static inline yq_answer yq_profile_read_include(const yq_profile *profile,
 {
     uint16_t domains[YQ_DOMAINS];
     uint8_t pinned[YQ_DOMAINS];
-    uint32_t pins[YQ_DOMAINS], numbers[2];
+    uint32_t pins[YQ_DOMAINS], exrs_counts[YQ_DOMAINS], numbers[3];
     uint32_t number = yq_read_include(
         yq_start(profile->bytes), profile->bytes.count, ingress,
         yq_start(include), include.count, domains, YQ_DOMAINS,
-        pinned, YQ_DOMAINS, pins, YQ_DOMAINS, numbers);
+        pinned, YQ_DOMAINS, pins, YQ_DOMAINS, exrs_counts, YQ_DOMAINS,
+        sequence->exrs, YQ_LIST, numbers);
     if (number == 0) {
         sequence->count = numbers[1];
         for (size_t i = 0; i < numbers[1]; i++) {
             sequence->stops[i].domain = domains[i];
             sequence->stops[i].pinned = pinned[i] == 1;
             sequence->stops[i].pin = pins[i];
+            sequence->stops[i].exrs_count = exrs_counts[i];
         }
     }
     return yq_answered(YQ_CALL_READ_INCLUDE, number, numbers);
+}
+
+/* How many bytes of EXRS the stops before this one have. */
+static inline size_t yq_exrs_before(const yq_sequence *sequence, size_t stop)
+{
+    size_t bytes = 0;
+    for (size_t i = 0; i < stop; i++)
+        bytes += sequence->stops[i].exrs_count;
+    return bytes;
 }
 
 /* The list that means this sequence, read with its first domain as ingress. */
@@ -198,17 +214,22 @@ static inline yq_answer yq_profile_write_list(const yq_profile *profile,
 {
     uint16_t domains[YQ_DOMAINS];
     uint8_t pinned[YQ_DOMAINS];
-    uint32_t pins[YQ_DOMAINS], numbers[2];
+    uint32_t pins[YQ_DOMAINS], exrs_counts[YQ_DOMAINS], numbers[2];
     /* None can't be written either: 35, like more than there is room for. */
     size_t count = sequence->count <= YQ_DOMAINS ? sequence->count : 0;
     for (size_t i = 0; i < count; i++) {
         domains[i] = sequence->stops[i].domain;
         pinned[i] = sequence->stops[i].pinned;
         pins[i] = sequence->stops[i].pin;
+        exrs_counts[i] = sequence->stops[i].exrs_count;
     }
+    /* Counts that say more than there is room for don't fit none: 35 too. */
+    size_t bytes = yq_exrs_before(sequence, count);
     uint32_t number = yq_write_list(
         yq_start(profile->bytes), profile->bytes.count, domains, count,
-        pinned, count, pins, count, list->bytes, YQ_LIST, numbers);
+        pinned, count, pins, count, exrs_counts, count,
+        sequence->exrs, bytes <= YQ_LIST ? bytes : 0,
+        list->bytes, YQ_LIST, numbers);
     if (number == 0)
         list->count = numbers[1];
     return yq_answered(YQ_CALL_WRITE_LIST, number, numbers);

@@ -8,8 +8,8 @@ import unittest
 import cases
 from cases import ASKED, EVERY, ONWARD, S, Z, number, request
 from yachayniq import (
-    Metric, Pcrep, Pcreq, Profile, Stop, check_profile, read_pcrep, read_pcreq,
-    write_pcrep, write_pcreq,
+    Metric, Pcrep, Pcreq, Profile, Stop, WithoutAs, WithoutIsisArea, WithoutNodes,
+    check_profile, read_exrs, read_pcrep, read_pcreq, write_exrs, write_pcrep, write_pcreq,
 )
 
 W = Profile(cases.W)
@@ -71,6 +71,15 @@ class Arguments(unittest.TestCase):
             ("asked must be a Pcreq, not int", Pcrep.none, 7),
             ("stop must be a Stop, not int", W.write_list, [0, 1, 2]),
             ("stops must be a list of Stops, not Stop", W.write_list, Stop(0)),
+            (f"exrs {octets} NoneType", W.write_list, [Stop(0), Stop(1, None, None)]),
+            (f"data {octets} list", read_exrs, [33, 8]),
+            ("exclusions must be a list of exclusions, not WithoutAs", write_exrs, WithoutAs(9)),
+            ("exclusion must be a WithoutAs, WithoutOspfArea, WithoutIsisArea or WithoutNodes, "
+             "not int", write_exrs, [64497]),
+            ("number must be a whole number, not str", write_exrs, [WithoutAs("64497")]),
+            (f"area {octets} str", write_exrs, [WithoutIsisArea("49")]),
+            ("prefix must be a whole number, not bool", write_exrs, [WithoutNodes(S, True)]),
+            ("desired must be a bool, not int", write_exrs, [WithoutAs(9, 1)]),
             ("after must be a Path or a list of addresses, not NoneType", W.next, request(), None),
             ('calls must be a list of "first" and "next", not int', W.series, request(), 3),
             ("metric must be a Metric, not int", write_pcrep, Pcrep(7, None, [1])),

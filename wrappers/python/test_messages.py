@@ -107,7 +107,7 @@ class Messages(unittest.TestCase):
         refused(21, 1, pcreq(RP, ENDS, metric(1, 0, 0x80000000)))
         refused(22, 0, pcreq(RP, ENDS, bytes.fromhex("0A120408") + bytes(1028)))
         refused(22, 1, pcreq(RP, ENDS, bytes.fromhex("1112040C") + bytes(1032)))
-        refused(24, 4, pcreq(RP, ENDS, bytes.fromhex("0A12000C 2004FBF1 2104FBF2")))
+        refused(24, 4, pcreq(RP, ENDS, bytes.fromhex("0A12000C 2004FBF1 2204FBF2")))
         refused(26, 0, pcreq(RP, ENDS, bytes.fromhex("11120010 00000000 0108C000 020C2002")))
         back = pcreq(RP, ENDS, bytes.fromhex("0A12000C 2004FBF1 2004FBF0"))
         self.assertEqual(read_pcreq(back).request_id, 7)

@@ -36,8 +36,18 @@ def objects(message: bytes) -> list[tuple[int, int, bytes]]:
     return found
 
 
+def any_include(chance: random.Random) -> bytes:
+    """An include list of right form, which may have EXRS."""
+    made = any_list(chance, False)
+    while chance.random() < 0.4:
+        inside, after = any_list(chance, True), any_list(chance, False)
+        if 0 < len(inside) <= 248 and len(made + inside + after) <= 1020:
+            made += bytes([33, 4 + len(inside)]) + chance.randbytes(2) + inside + after
+    return made
+
+
 def any_list(chance: random.Random, excluding: bool) -> bytes:
-    """Subobjects of right form, of each type."""
+    """Subobjects of right form, of each type but EXRS."""
     made = []
     for _ in range(chance.choice((0, 0, 1, 2, 5, 40))):
         address = chance.randbytes(4)
@@ -65,7 +75,7 @@ def any_fields(chance: random.Random) -> Pcreq:
     return Pcreq(
         chance.randrange(1 << 32), chance.randrange(0x40), address(), address(),
         chance.choice((0, chance.randrange(0x7F800000))), metrics,
-        any_list(chance, False), any_list(chance, True),
+        any_include(chance), any_list(chance, True),
     )
 
 

@@ -32,7 +32,7 @@ INFINITE, LONG = 0x7F800000, bytes(1028)
 # Each a list whose subobject at 4 is refused so, after AS 64497; none has a meaning yet.
 WRONG_FORMS = {
     23: "0108C000",
-    24: "2104FBF2",
+    24: "2204FBF2",
     25: "2008FBF2 00000000",
     26: "0108C000 02162100",
     27: "A004FBF2",
@@ -47,6 +47,7 @@ WRONG_MEANINGS = {
     30: (PROFILE, BACK, 8),
     31: (SEVENTEEN, FIFTEEN + bytes.fromhex("05080000 00010000"), 60),
     32: (PROFILE, ONWARD + bytes.fromhex("0108C000 02162000"), 8),
+    42: (PROFILE, ONWARD + bytes.fromhex("21080000 20040009"), 8),
 }
 HEADS = {
     36: (b"", 0),
@@ -258,7 +259,10 @@ class Refusals(unittest.TestCase):
             ("series", 33, 0, "a next before any path was handed out"),
             ("write_pcreq", 37, 0, "not a message that can be written: over 65,535 bytes, "
                                    "or a list whose length is no multiple of 4"),
+            ("tree", 42, 8, "an EXRS with no new domain after it "
+                            "(place: offset in the include list)"),
             ("tree", 41, 0, "not a number of this call"),
+            ("read_pcreq", 42, 0, "not a number of this call"),
         ):
             refusal = Refused(number, place, call)
             self.assertEqual(str(refusal), f"refused: number {number}, place {place}: {text}")

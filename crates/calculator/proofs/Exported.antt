@@ -7,9 +7,10 @@ use Rattle.model.specs.declared.ReadAnswer.{ReadAnswer}
 use Rattle.model.specs.declared.TreeAnswer.{TreeAnswer}
 use Rattle.model.specs.declared.TreeEntry.{TreeEntry}
 use Rattle.model.specs.Lists.{over}
+use Rattle.model.specs.Sequence.{Stop}
 use Rattle.model.specs.Answers.{Numbers, numbersOfPath, numbersOfRead, numbersOfTree}
 use Rattle.model.specs.Calls.{Outcome}
-use Rattle.list_reader.specs.ReadInclude.{ReadIs}
+use Rattle.list_reader.specs.ReadInclude.{ReadIn}
 use Rattle.tree_fields.specs.TreeResult.{TreeIn}
 use Rattle.pcep_model.specs.declared.PcrepAnswer.{PcrepAnswer}
 use Rattle.pcep_model.specs.declared.PcreqAnswer.{PcreqAnswer}
@@ -59,15 +60,17 @@ module _ (r : ℕ) (numbers : List ℕ) where
       }
 
   pub read-export
-      : (profile : List ℕ) (ingress : ℕ) (list d m n d′ m′ n′ : List ℕ) (x : ReadAnswer) → ReadIs profile ingress list d m n x d′ m′ n′
-      → r ≡ (numbersOfRead x) .answer → numbers ≡ (numbersOfRead x) .others → ReadExport profile ingress list d m n r numbers d′ m′ n′
-  read-export profile ingress list d m n d′ m′ n′ x is first others =
+      : (o : Outcome Stop) (d m n c x d′ m′ n′ c′ x′ : List ℕ) (a : ReadAnswer) → ReadIn o d m n c x a d′ m′ n′ c′ x′
+      → r ≡ (numbersOfRead a) .answer → numbers ≡ (numbersOfRead a) .others → ReadExport o d m n c x r numbers d′ m′ n′ c′ x′
+  read-export o d m n c x d′ m′ n′ c′ x′ a is first others =
       record {
-        answer = answer-is (numbersOfRead x) _ (is .numbers) r numbers first others;
-        others = others-are (numbersOfRead x) _ (is .numbers) r numbers first others;
+        answer = answer-is (numbersOfRead a) _ (is .numbers) r numbers first others;
+        others = others-are (numbersOfRead a) _ (is .numbers) r numbers first others;
         in-domains = is .in-domains;
         in-marks = is .in-marks;
         in-nodes = is .in-nodes;
+        in-counts = is .in-counts;
+        in-exrs = is .in-exrs;
       }
 
   pub pcreq-export

@@ -11,18 +11,20 @@ use Rattle.model.specs.Lists.{over}
 use Rattle.model.specs.Sequence.{Stop}
 use Rattle.model.specs.Request.{Request}
 use Rattle.model.specs.declared.TreeEntry.{TreeEntry}
-use Rattle.model.specs.Calls.{Outcome, readInclude, pinMark, pinNode}
+use Rattle.model.specs.Calls.{Outcome, allExrs, pinMark, pinNode}
 use Rattle.tree_fields.specs.Fields.{level, address, mark, cost}
 use Rattle.path_series.specs.Calls.{malformed}
 use Rattle.path_series.specs.Runs.{numberOfSeries, answerIf, LeftIf}
 
 -- the number returned, the other numbers stored, and each buffer with its part of the sequence at its start
-pub record ReadExport (profile : List ℕ) (ingress : ℕ) (list domains marks nodes : List ℕ) (r : ℕ) (numbers domains′ marks′ nodes′ : List ℕ) : Type 0 where
-  pub answer : r ≡ (readInclude profile ingress list (least3 domains marks nodes)) .numbers .answer
-  pub others : numbers ≡ (readInclude profile ingress list (least3 domains marks nodes)) .numbers .others
-  pub in-domains : domains′ ≡ over (map (λ (p : Stop). p .domain) ((readInclude profile ingress list (least3 domains marks nodes)) .written)) domains
-  pub in-marks : marks′ ≡ over (map (λ (p : Stop). pinMark (p .pin)) ((readInclude profile ingress list (least3 domains marks nodes)) .written)) marks
-  pub in-nodes : nodes′ ≡ over (map (λ (p : Stop). pinNode (p .pin)) ((readInclude profile ingress list (least3 domains marks nodes)) .written)) nodes
+pub record ReadExport (o : Outcome Stop) (domains marks nodes counts exrs : List ℕ) (r : ℕ) (numbers domains′ marks′ nodes′ counts′ exrs′ : List ℕ) : Type 0 where
+  pub answer : r ≡ o .numbers .answer
+  pub others : numbers ≡ o .numbers .others
+  pub in-domains : domains′ ≡ over (map (λ (p : Stop). p .domain) (o .written)) domains
+  pub in-marks : marks′ ≡ over (map (λ (p : Stop). pinMark (p .pin)) (o .written)) marks
+  pub in-nodes : nodes′ ≡ over (map (λ (p : Stop). pinNode (p .pin)) (o .written)) nodes
+  pub in-counts : counts′ ≡ over (map (λ (p : Stop). length (p .exrs)) (o .written)) counts
+  pub in-exrs : exrs′ ≡ over (allExrs (o .written)) exrs
 
 -- the number returned, the other numbers stored, and what is written at the start of the buffer
 pub record WriteExport (o : Outcome ℕ) (out : List ℕ) (r : ℕ) (numbers out′ : List ℕ) : Type 0 where

@@ -11,7 +11,7 @@ use request::limits::asked_of;
 use tree_fields::tree_numbers;
 ghost use mathlib.Core.Path.{_≡_};
 ghost use lib.ListN.{length};
-ghost use Rattle.model.specs.Calls.{checkProfile, writeList, buildTree};
+ghost use Rattle.model.specs.Calls.{checkProfile, readInclude, writeList, buildTree};
 ghost use Rattle.buffers.specs.Capacity.{least4};
 ghost use Rattle.calculator.specs.Exports.{ReadExport, WriteExport, TreeExport};
 ghost use Rattle.request.specs.Bits.{limitsOfBits};
@@ -38,7 +38,7 @@ pub extern "C" fn yq_check_profile(profile: &[u8], numbers: &mut [u32; 1]) -> u3
     }
 }
 
-// numbers: place, how many domains
+// numbers: place, how many domains, how many bytes of EXRS
 #[no_mangle]
 pub extern "C" fn yq_read_include(
     profile: &[u8],
@@ -47,9 +47,11 @@ pub extern "C" fn yq_read_include(
     domains: &mut [u16],
     pinned: &mut [u8],
     pins: &mut [u32],
-    numbers: &mut [u32; 2],
+    exrs_counts: &mut [u32],
+    exrs: &mut [u8],
+    numbers: &mut [u32; 3],
 ) -> u32
-    ensures { λ r. ⌜ ReadExport (now (profile .entry)) ingress (now (include .entry)) (now (domains .entry)) (now (pinned .entry)) (now (pins .entry)) r (now (numbers .exit)) (now (domains .exit)) (now (pinned .exit)) (now (pins .exit)) ⌝ }
+    ensures { λ r. ⌜ ReadExport (readInclude (now (profile .entry)) ingress (now (include .entry)) (least4 (now (domains .entry)) (now (pinned .entry)) (now (pins .entry)) (now («exrs_counts» .entry))) (length (now (exrs .entry)))) (now (domains .entry)) (now (pinned .entry)) (now (pins .entry)) (now («exrs_counts» .entry)) (now (exrs .entry)) r (now (numbers .exit)) (now (domains .exit)) (now (pinned .exit)) (now (pins .exit)) (now («exrs_counts» .exit)) (now (exrs .exit)) ⌝ }
 {
     let answer = read_include(
         profile,
@@ -58,6 +60,8 @@ pub extern "C" fn yq_read_include(
         domains,
         pinned,
         pins,
+        exrs_counts,
+        exrs,
     );
     tell_read(answer, numbers)
 }
@@ -69,12 +73,14 @@ pub extern "C" fn yq_write_list(
     domains: &[u16],
     pinned: &[u8],
     pins: &[u32],
+    exrs_counts: &[u32],
+    exrs: &[u8],
     out: &mut [u8],
     numbers: &mut [u32; 2],
 ) -> u32
-    ensures { λ r. ⌜ WriteExport (writeList (now (profile .entry)) (now (domains .entry)) (now (pinned .entry)) (now (pins .entry)) (length (now (out .entry)))) (now (out .entry)) r (now (numbers .exit)) (now (out .exit)) ⌝ }
+    ensures { λ r. ⌜ WriteExport (writeList (now (profile .entry)) (now (domains .entry)) (now (pinned .entry)) (now (pins .entry)) (now («exrs_counts» .entry)) (now (exrs .entry)) (length (now (out .entry)))) (now (out .entry)) r (now (numbers .exit)) (now (out .exit)) ⌝ }
 {
-    let answer = write_list(profile, domains, pinned, pins, out);
+    let answer = write_list(profile, domains, pinned, pins, exrs_counts, exrs, out);
     tell_write(answer, numbers)
 }
 

@@ -10,17 +10,17 @@ ghost use Rattle.model.specs.Answers.{numbersOfRead, numbersOfWrite, numbersOfT
 ghost use Rattle.pcep_model.specs.Pcreq.{numbersOfPcreq};
 ghost use Rattle.pcep_model.specs.Pcrep.{numbersOfPcrep, mark as markOf};
 
-// place, how many domains
-pub fn tell_read(answer: ReadAnswer, numbers: &mut [u32; 2]) -> u32
+// place, how many domains, how many bytes of EXRS
+pub fn tell_read(answer: ReadAnswer, numbers: &mut [u32; 3]) -> u32
     ensures { λ r. ⌜ (r ≡ numbersOfRead answer .answer) × (now (numbers .exit) ≡ numbersOfRead answer .others) ⌝ }
 {
     match answer {
-        ReadAnswer::Read { count } => {
-            *numbers = [0, count];
+        ReadAnswer::Read { count, exrs } => {
+            *numbers = [0, count, exrs];
             0
         }
         ReadAnswer::Refused(r) => {
-            *numbers = [r.place, 0];
+            *numbers = [r.place, 0, 0];
             r.number
         }
     }

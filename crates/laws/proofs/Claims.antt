@@ -36,6 +36,7 @@ pub use Rattle.laws.proofs.BoundExact.{bound-exact, bandwidth-exact}
 pub use Rattle.laws.proofs.NearestFloat.{float-exact, float-nearest, float-within-eight}
 pub use Rattle.laws.proofs.ReadsBack.{reads-back, written-short}
 pub use Rattle.laws.proofs.Lacking.{lacking-clear, lacking-desired, lacking-inserted, clear-inserted}
+pub use Rattle.laws.proofs.OwnStop.{own-stop, own-stop-clear, idle}
 
 module _ (r : Request) (sequence : List Stop) (bytes : Bytes (r .profile)) (yes : Accepted r sequence) where
   sorted : SortedHops (hops (layoutFor r) (r .profile))

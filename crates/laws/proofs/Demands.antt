@@ -53,17 +53,18 @@ classes-apart = Classes.classes-apart
 
 -- ==== Demand 2: domain lists and the tree
 
--- A list that the writer writes, for any sequence that it accepts, reads back as the same sequence, with its first domain as ingress.
+-- A list that the writer writes, for any sequence that it accepts, reads back as the same sequence, EXRS byte for byte, with its first domain as ingress.
 pub reads-back
-    : (profile indexes marks nodes : List ℕ)
-    → ((i : ℕ) → getD profile i 0 < 256)
+    : (profile indexes marks nodes counts exrs : List ℕ)
+    → Bytes profile
     → ((i : ℕ) → getD nodes i 0 < 2 ^ 32)
+    → Bytes exrs
     → verdictOn profile ≡ Pass
-    → unwritable (domains profile) indexes marks nodes ≡ false
-    → readingOf profile (getD indexes 0 0) (written (domains profile) (stops indexes marks nodes)) ≡ good (stops indexes marks nodes)
+    → unwritable (domains profile) indexes marks nodes counts exrs ≡ false
+    → readingOf profile (getD indexes 0 0) (written (domains profile) (stops indexes marks nodes counts exrs)) ≡ good (stops indexes marks nodes counts exrs)
 reads-back = Lists.reads-back
 
--- What is read: 1 to 16 domains of the profile, the ingress domain first and without entry constraint, none twice.
+-- What is read: 1 to 16 domains of the profile, the ingress domain first and without entry constraint or EXRS, none twice.
 pub record SequenceRight (r : Request) (sequence : List Stop) : Type 0 where
   pub count : (1 ≤ length sequence) × (length sequence ≤ 16)
   pub first : getD sequence 0 noStop ≡ stopWith (r .ingress) []

@@ -19,47 +19,28 @@ use Rattle.model.specs.Lists.{any, keep}
 use Rattle.model.specs.Bytes.{number, part}
 use Rattle.model.specs.Along.{checkedAlong, placesAlong}
 use Rattle.model.specs.Exclusion.{someDesired}
-use Rattle.model.specs.Subobject.{Named, prefix, system, area, Subobject, roundedUp, lengthFits, topAt, typeAt, lengthAt, areaLengthAt, subobjectVerdict, namedAt, subobjectAt, afterSubobject, formVerdict, subobjects}
+use Rattle.model.specs.Subobject.{Named, prefix, system, area, stretch, Subobject, topAt, typeAt, lengthAt, areaLengthAt, subobjectVerdict, namedAt, subobjectAt, afterSubobject, formVerdict, subobjects}
 use Rattle.laws.proofs.Tests.{decide}
 use Rattle.laws.proofs.Lists.{keep-none, keep-append, map-mem}
 use Rattle.laws.proofs.Numbers.{number-alike}
 use Rattle.laws.proofs.Turns.{andThen-pass}
 use Rattle.laws.proofs.Along.{places-step, no-places, check-step, places-whole}
+use Rattle.laws.proofs.Forms.{fits-1, fits-5, fits-6, fits-7}
 use Rattle.laws.proofs.Walk.{Right, right-subobject, further}
 use Rattle.laws.proofs.Subobjects.{named-shift}
 use Rattle.laws.proofs.Hits.{hits, unplaced, hitting, desired-unplaced}
 
 -- ---- a subobject looks at its own bytes alone
 
--- the length of a type that has an own one
-module _ (k : ListKind) (a n : ℕ) where
-  fitted : (m : ℕ) → (eqb n m || false) ≡ true → n ≡ m
-  fitted m h = eqb-true n m (sym (or-false (eqb n m)) ∙ h)
-
-  fits-1 : (t : ℕ) → lengthFits k t a n ≡ true → t ≡ 1 → n ≡ 8
-  unfolding lengthFits any
-  fits-1 t h e = let l = fitted (8 + 0 * roundedUp a) (subst (λ (u : ℕ). lengthFits k u a n ≡ true) e h) in omega arith
-
-  fits-5 : (t : ℕ) → lengthFits k t a n ≡ true → t ≡ 5 → n ≡ 8
-  unfolding lengthFits any
-  fits-5 t h e = let l = fitted (8 + 0 * roundedUp a) (subst (λ (u : ℕ). lengthFits k u a n ≡ true) e h) in omega arith
-
-  fits-6 : (t : ℕ) → lengthFits k t a n ≡ true → t ≡ 6 → n ≡ 8
-  unfolding lengthFits any
-  fits-6 t h e = let l = fitted (8 + 0 * roundedUp a) (subst (λ (u : ℕ). lengthFits k u a n ≡ true) e h) in omega arith
-
-  fits-7 : (t : ℕ) → lengthFits k t a n ≡ true → t ≡ 7 → 4 + a ≤ n
-  unfolding lengthFits any
-  fits-7 t h e = let l = fitted (4 + 1 * roundedUp a) (subst (λ (u : ℕ). lengthFits k u a n ≡ true) e h) in omega arith
-
--- what a subobject of a type and area length names
-abbrev namedBy : ℕ → ℕ → List ℕ → ℕ → Named
-namedBy t a s at =
+-- what a subobject of a type, area length and length names
+abbrev namedBy : ℕ → ℕ → ℕ → List ℕ → ℕ → Named
+namedBy t a n s at =
     cond (eqb t 1) (prefix (number 4 s (at + 2)) (getD s (at + 6) 0))
     (cond (eqb t 5) (system (number 4 s (at + 4)))
     (cond (eqb t 6) (area (record { kind = 1; bytes = part s (at + 4) 4 }))
     (cond (eqb t 7) (area (record { kind = 2; bytes = part s (at + 4) a }))
-    (system (number 2 s (at + 2))))))
+    (cond (eqb t 33) (stretch (part s at n))
+    (system (number 2 s (at + 2)))))))
 
 cond-alike : {A : Type 0} (b : Bool) (x y z w : A) → (b ≡ true → x ≡ y) → z ≡ w → cond b x z ≡ cond b y w
 cond-alike true x y z w h k = h refl
@@ -87,7 +68,8 @@ module _ (xs ys : List ℕ) where
         let t = typeAt xs at in
         let a = areaLengthAt xs at in
         let n = lengthAt xs at in
-        ap₂ (λ (b c : ℕ). namedBy (b % 128) c (xs ++ ys) at) (List·getD-append xs ys 0 at (omega arith)) (List·getD-append xs ys 0 (at + 2) (omega arith))
+        ap₂ (λ (b c : ℕ). namedBy (b % 128) c (lengthAt (xs ++ ys) at) (xs ++ ys) at) (List·getD-append xs ys 0 at (omega arith)) (List·getD-append xs ys 0 (at + 2) (omega arith))
+        ∙ ap (λ (m : ℕ). namedBy t a m (xs ++ ys) at) length-front
         ∙ cond-alike (eqb t 1) _ _ _ _
         (λ e.
         let l = fits-1 k a n t (r .fits) (eqb-true t 1 e) in
@@ -101,7 +83,8 @@ module _ (xs ys : List ℕ) where
         (λ e.
         let l = fits-7 k a n t (r .fits) (eqb-true t 7 e) in
         ap (λ (b : List ℕ). area (record { kind = 2; bytes = b })) (part-front (at + 4) a (omega arith)))
-        (ap system (number-front 2 (at + 2) (omega arith))))))
+        (cond-alike (eqb t 33) _ _ _ _ (λ e. ap stretch (part-front at n (r .whole)))
+        (ap system (number-front 2 (at + 2) (omega arith)))))))
 
     itself : unplaced (subobjectAt (xs ++ ys) at) ≡ unplaced (subobjectAt xs at)
     itself = λ i. record { offset = 0; top = top-front i; names = named-front i }
@@ -255,16 +238,16 @@ module _ (k : ListKind) (before some after : List ℕ) (in-list : Inserted k bef
 
   -- where the profile lacks all that they name, they change nothing of what hits
   pub inserted-lacking
-      : (ds : List Domain) (hs : List Hop)
-      → ((s : Subobject) → List·Memᴰ s (subobjects some) → hits ds hs s ≡ false)
-      → hitting ds hs (subobjects (before ++ (some ++ after))) ≡ hitting ds hs (subobjects (before ++ after))
+      : (ds : List Domain) (nodes : List ℕ)
+      → ((s : Subobject) → List·Memᴰ s (subobjects some) → hits ds nodes s ≡ false)
+      → hitting ds nodes (subobjects (before ++ (some ++ after))) ≡ hitting ds nodes (subobjects (before ++ after))
   unfolding hitting hits
-  inserted-lacking ds hs lacks =
-      ap (keep (hits ds hs)) subobjects-with
-      ∙ keep-without (hits ds hs) (map unplaced (subobjects before)) (map unplaced (subobjects some)) (map unplaced (readAlong fuel after 0))
-      (keep-none (hits ds hs) (map unplaced (subobjects some))
-      (λ s m. let q = map-mem unplaced (subobjects some) m in ap (hits ds hs) (q .2) ∙ lacks (q .0) (q .1)))
-      ∙ sym (ap (keep (hits ds hs)) subobjects-without)
+  inserted-lacking ds nodes lacks =
+      ap (keep (hits ds nodes)) subobjects-with
+      ∙ keep-without (hits ds nodes) (map unplaced (subobjects before)) (map unplaced (subobjects some)) (map unplaced (readAlong fuel after 0))
+      (keep-none (hits ds nodes) (map unplaced (subobjects some))
+      (λ s m. let q = map-mem unplaced (subobjects some) m in ap (hits ds nodes) (q .2) ∙ lacks (q .0) (q .1)))
+      ∙ sym (ap (keep (hits ds nodes)) subobjects-without)
 
   -- and where all have X clear, nothing of whether some exclusion has X set
   pub inserted-clear

@@ -29,6 +29,7 @@ overHops S hs =
       hops = hs;
       sequence = S .sequence;
       exclusions = S .exclusions;
+      stretches = S .stretches;
       source = S .source;
       destination = S .destination;
       limits = S .limits;

@@ -37,8 +37,10 @@ pub mod RoundExact
 pub mod TallyMost
 pub mod Hits
 pub mod SameAnswers
+pub mod SameRounds
 pub mod JoinedLists
 pub mod Lacking
+pub mod OwnStop
 pub mod Least
 pub mod Reach
 pub mod TreeLeast
@@ -50,6 +52,9 @@ pub mod NextSplit
 pub mod Numbers
 pub mod InARow
 pub mod Subobjects
+pub mod Exrs
+pub mod Waiting
+pub mod ExrsSizes
 pub mod AreaLengths
 pub mod WrittenForm
 pub mod SoundDomains
@@ -57,9 +62,11 @@ pub mod WrittenItems
 pub mod NumberLists
 pub mod ReadItems
 pub mod Stops
+pub mod WrittenSizes
 pub mod ReadsBack
 pub mod RoundTrip
 pub mod Claims
+pub mod Forms
 pub mod Walk
 pub mod Words
 pub mod Different

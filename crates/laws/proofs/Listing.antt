@@ -1,8 +1,8 @@
 -- The listing in document 01's words: over admissible paths and their totals, not over the enumeration; and when it is empty. From what `shortest-paths-exact` says of
 -- the admissible routes, each of which has the addresses of an admissible path and its total.
 use Prim.Native.Nat.{ℕ, _≤_}
-use mathlib.Core.Path.{_≡_, refl, sym, ap, subst, _∙_}
-use mathlib.Core.Logic.{_↔_, ⊎-elim}
+use mathlib.Core.Path.{_≡_, refl, sym, ap, ap₂, subst, _∙_}
+use mathlib.Core.Logic.{_↔_, inl, inr, ⊎-elim}
 use mathlib.Core.Bool.{true, not, true≢false}
 use mathlib.Core.List.{List, [], _∷_, map, List·Memᴰ, List·Memᴰ·head, Memᴰ·cast}
 use Rattle.model.specs.declared.Round.{Round}
@@ -11,12 +11,12 @@ use Rattle.model.specs.Lists.{isEmpty, below}
 use Rattle.model.specs.Profile.{domains, hops}
 use Rattle.model.specs.Sequence.{Stop}
 use Rattle.model.specs.Exclusion.{inForce}
-use Rattle.model.specs.Subobject.{Subobject}
+use Rattle.model.specs.Subobject.{Subobject, subobjects, carried}
 use Rattle.model.specs.Request.{Request, layoutFor, Search, allExclusions, searchIn}
 use Rattle.model.specs.Path.{Admissible, total, Route, keepsBound, paths, admissible, shortestPaths}
 use Rattle.model.specs.Rounds.{roundOf, searchOf}
 use Rattle.laws.specs.Sorted.{Sorted}
-use Rattle.laws.proofs.Lists.{keep-mem, keep-all, map-mem, mem-map}
+use Rattle.laws.proofs.Lists.{keep-mem, keep-all, map-agree, map-mem, mem-map}
 use Rattle.laws.proofs.HopKeys.{SortedHops}
 use Rattle.laws.proofs.Suffixes.{addressesOf}
 use Rattle.laws.proofs.PathsAreThePaths.{paths-total, paths-ascend, admissible-exact}
@@ -103,20 +103,23 @@ module _ (r : Request) (sequence : List Stop) (sorted : SortedHops (hops (layout
   same-search : AllClear (allExclusions (r .exclude) sequence) → searchIn First r sequence ≡ searchIn Second r sequence
   unfolding searchIn inForce
   same-search clear =
-      let subs = allExclusions (r .exclude) sequence in
-      let all = keep-all (countsIn First) subs (λ s m. refl) ∙ sym (keep-all (countsIn Second) subs (λ s m. ap not (clear s m))) in
-      ap
-      (λ (xs : List Subobject).
+      let same : (xs : List Subobject) → AllClear xs → inForce First xs ≡ inForce Second xs =
+      λ xs c. keep-all (countsIn First) xs (λ s m. refl) ∙ sym (keep-all (countsIn Second) xs (λ s m. ap not (c s m))) in
+      ap₂
+      (λ (xs : List Subobject) (own : List (List Subobject)).
       record {
         domains = domains (r .profile);
         hops = hops (layoutFor r) (r .profile);
         sequence = sequence;
         exclusions = xs;
+        stretches = own;
         source = r .source;
         destination = r .destination;
         limits = r .limits;
       })
-      all
+      (same (subobjects (r .exclude)) (λ s m. clear s (exact .all-are s .1 (inl m))))
+      (map-agree (λ (p : Stop). inForce First (carried (p .exrs))) (λ (p : Stop). inForce Second (carried (p .exrs))) sequence
+      (λ p m. same (carried (p .exrs)) (λ s n. clear s (exact .all-are s .1 (inr (p, m, n))))))
 
   by-round : (y : Round) → roundOf r sequence ≡ y → NoneAdmissible (searchIn y r sequence) → (x : Round) → NoneAdmissible (searchIn x r sequence)
   by-round First e none First = none

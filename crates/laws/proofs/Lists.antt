@@ -2,8 +2,8 @@
 -- By recursion on the list.
 use mathlib.Core.Path.{_≡_, refl, sym, subst, _∙_, ap}
 use mathlib.Core.Logic.{_⊎_, inl, inr, ⊎-elim}
-use mathlib.Core.Bool.{Bool, true, false, false≢true}
-use mathlib.Core.List.{List, [], _∷_, _++_, map, List·Memᴰ, List·Memᴰ·head, List·Memᴰ·tail, Memᴰ·append-left, Memᴰ·append-right, List·Memᴰ·append-cases, List·Memᴰ·cases-cons, List·Memᴰ·not-nil}
+use mathlib.Core.Bool.{Bool, true, false, _||_, or-assoc, false≢true}
+use mathlib.Core.List.{List, [], _∷_, _++_, append-assoc, map, List·Memᴰ, List·Memᴰ·head, List·Memᴰ·tail, Memᴰ·append-left, Memᴰ·append-right, List·Memᴰ·append-cases, List·Memᴰ·cases-cons, List·Memᴰ·not-nil}
 use Prim.Native.Nat.{ℕ, zero, suc, _+_, _≤_, _<_}
 use native.Mathlib.Omega.{arith}
 use native.Mathlib.Nat.{eq-or-lt-of-le}
@@ -79,6 +79,11 @@ module _ {A : Type 0} where
   mem-all p [] h = refl
   mem-all p (x ∷ xs) h = both-and (p x) (all p xs) (h x (List·Memᴰ·head refl)) (mem-all p xs (λ y m. h y (List·Memᴰ·tail m)))
 
+  pub any-append : (p : A → Bool) (xs ys : List A) → any p (xs ++ ys) ≡ (any p xs || any p ys)
+  unfolding any
+  any-append p [] ys = refl
+  any-append p (x ∷ xs) ys = ap (λ (b : Bool). p x || b) (any-append p xs ys) ∙ sym (or-assoc (p x) (any p xs) (any p ys))
+
   pub any-mem : (p : A → Bool) (xs : List A) → any p xs ≡ true → (x : A) × List·Memᴰ x xs × (p x ≡ true)
   unfolding any
   any-mem p [] t = absurd (false≢true t)
@@ -113,9 +118,18 @@ module _ {A B : Type 0} where
   mem-map f (List·Memᴰ·head e) = List·Memᴰ·head (ap f e)
   mem-map f (List·Memᴰ·tail m) = List·Memᴰ·tail (mem-map f m)
 
+  pub map-agree : (f g : A → B) (xs : List A) → ((x : A) → List·Memᴰ x xs → f x ≡ g x) → map f xs ≡ map g xs
+  map-agree f g [] h = refl
+  map-agree f g (x ∷ xs) h = λ i. h x (List·Memᴰ·head refl) i ∷ map-agree f g xs (λ y m. h y (List·Memᴰ·tail m)) i
+
   pub map-append : (f : A → B) (xs ys : List A) → map f (xs ++ ys) ≡ map f xs ++ map f ys
   map-append f [] ys = refl
   map-append f (x ∷ xs) ys = ap {B = List B} (λ (r : List B). f x ∷ r) (map-append f xs ys)
+
+  pub each-append : (f : A → List B) (xs ys : List A) → each f (xs ++ ys) ≡ each f xs ++ each f ys
+  unfolding each
+  each-append f [] ys = refl
+  each-append f (x ∷ xs) ys = ap {B = List B} (λ (l : List B). f x ++ l) (each-append f xs ys) ∙ sym (append-assoc (f x) (each f xs) (each f ys))
 
   pub each-mem : (f : A → List B) (xs : List A) {y : B} → List·Memᴰ y (each f xs) → (x : A) × List·Memᴰ x xs × List·Memᴰ y (f x)
   unfolding each

@@ -20,7 +20,7 @@ use Rattle.model.specs.Path.{Route, shortestPaths}
 use Rattle.model.specs.Tree.{tree}
 use Rattle.model.specs.Rounds.{roundOf, searchOf}
 use Rattle.model.specs.Answers.{Numbers, plain4}
-use Rattle.model.specs.Calls.{Outcome, profileNumbers, checkProfile, roomVerdict, answerRead, readInto, readingOf, readInclude, answerWrite, writeList, answerTree, treeInto, buildTree, firstOf, answerPath, pathLength, firstInto, first, greaterThan, nextInto, next}
+use Rattle.model.specs.Calls.{Outcome, profileNumbers, checkProfile, roomVerdict, answerRead, readInto, readingOf, readInclude, answerWrite, writeList, answerTree, treeInto, buildTree, firstOf, answerPath, pathLength, firstInto, first, greaterThan, nextInto, next, allExrs}
 use Rattle.laws.proofs.RefusalNumbers.{Numbered, Refusing, test, both, more, profile-refusing, Reads, sequence-reads, reading-reads}
 
 -- ---- what is said of an answer
@@ -72,14 +72,14 @@ module _ (most : ℕ) (high : 35 ≤ most) where
 
   read-by : (v : Verdict) (sequence : List Stop) → Refusing most v → Quiet most (answerRead v sequence)
   read-by Pass sequence h = done-quiet _ sequence
-  read-by (Refuse x) sequence h = refused-quiet 1 x (h .numbered x refl)
+  read-by (Refuse x) sequence h = refused-quiet 2 x (h .numbered x refl)
 
   pub room : (needed there : ℕ) → Refusing most (roomVerdict needed there)
   room needed there = test most high (ltb there needed) 34 0 (omega arith)
 
-  reading-by : (reading : Reading (List Stop)) (there : ℕ) → Reads most reading → Quiet most (readInto reading there)
-  reading-by (refused x) there h = refused-quiet 1 x (h .numbered x refl)
-  reading-by (good sequence) there h = read-by (roomVerdict (length sequence) there) sequence (room (length sequence) there)
+  reading-by : (reading : Reading (List Stop)) (there bytes : ℕ) → Reads most reading → Quiet most (readInto reading there bytes)
+  reading-by (refused x) there bytes h = refused-quiet 2 x (h .numbered x refl)
+  reading-by (good sequence) there bytes h = read-by _ sequence (both most high (room (length sequence) there) (room (length (allExrs sequence)) bytes))
 
   pub write-by : (v : Verdict) (bytes : List ℕ) → Refusing most v → Quiet most (answerWrite v bytes)
   write-by Pass bytes h = done-quiet _ bytes
@@ -118,25 +118,32 @@ module _ (most : ℕ) (high : 35 ≤ most) where
 
 pub record AllQuiet : Type 0 where
   pub check-profile : (profile : List ℕ) → QuietNumbers 35 (checkProfile profile)
-  pub read-include : (profile : List ℕ) (ingress : ℕ) (list : List ℕ) (there : ℕ) → Quiet 35 (readInclude profile ingress list there)
-  pub write-list : (profile indexes marks nodes : List ℕ) (there : ℕ) → Quiet 35 (writeList profile indexes marks nodes there)
-  pub build-tree : (r : Request) (there : ℕ) → Quiet 35 (buildTree r there)
-  pub first-path : (r : Request) (there : ℕ) → Quiet 35 (first r there)
-  pub next-path : (r : Request) (given : List ℕ) (there : ℕ) → Quiet 35 (next r given there)
+  pub read-include : (profile : List ℕ) (ingress : ℕ) (list : List ℕ) (there bytes : ℕ) → Quiet 42 (readInclude profile ingress list there bytes)
+  pub write-list : (profile indexes marks nodes counts exrs : List ℕ) (there : ℕ) → Quiet 35 (writeList profile indexes marks nodes counts exrs there)
+  pub build-tree : (r : Request) (there : ℕ) → Quiet 42 (buildTree r there)
+  pub first-path : (r : Request) (there : ℕ) → Quiet 42 (first r there)
+  pub next-path : (r : Request) (given : List ℕ) (there : ℕ) → Quiet 42 (next r given there)
 
 at-most : 35 ≤ 35
 at-most = omega arith
+
+-- with the meaning of an include list, whose highest number is 42
+within : 35 ≤ 42
+within = omega arith
+
+highest : 42 ≤ 42
+highest = omega arith
 
 pub all-quiet : AllQuiet
 unfolding checkProfile readInclude writeList buildTree first next
 all-quiet =
     record {
       check-profile = λ profile. profile-by 35 at-most (verdictOn profile) (profile-refusing 35 at-most (layoutIn profile) profile);
-      read-include = λ profile ingress list there. reading-by 35 at-most (readingOf profile ingress list) there (reading-reads 35 at-most profile ingress list);
-      write-list = λ profile indexes marks nodes there.
-          let bytes = written (domains profile) (stops indexes marks nodes) in
-          write-by 35 at-most _ bytes (both 35 at-most (more 35 at-most (profile-refusing 35 at-most (layoutIn profile) profile) (unwritable (domains profile) indexes marks nodes) 35 0 (omega arith)) (room 35 at-most (length bytes) there));
-      build-tree = λ r there. tree-of 35 at-most r (sequenceOf r) there (sequence-reads 35 at-most r);
-      first-path = λ r there. first-from 35 at-most r (sequenceOf r) there (sequence-reads 35 at-most r);
-      next-path = λ r given there. next-from 35 at-most r (sequenceOf r) given there (sequence-reads 35 at-most r);
+      read-include = λ profile ingress list there bytes. reading-by 42 within (readingOf profile ingress list) there bytes (reading-reads 42 within highest profile ingress list);
+      write-list = λ profile indexes marks nodes counts exrs there.
+          let bytes = written (domains profile) (stops indexes marks nodes counts exrs) in
+          write-by 35 at-most _ bytes (both 35 at-most (more 35 at-most (profile-refusing 35 at-most (layoutIn profile) profile) (unwritable (domains profile) indexes marks nodes counts exrs) 35 0 (omega arith)) (room 35 at-most (length bytes) there));
+      build-tree = λ r there. tree-of 42 within r (sequenceOf r) there (sequence-reads 42 within highest r);
+      first-path = λ r there. first-from 42 within r (sequenceOf r) there (sequence-reads 42 within highest r);
+      next-path = λ r given there. next-from 42 within r (sequenceOf r) given there (sequence-reads 42 within highest r);
     }

@@ -1,8 +1,8 @@
 -- Reading what was written for a sequence gives the sequence: the AS and the area written for a domain name that domain and no other, so each stop is
--- entered in its turn, with its entry constraint. By recursion along the sequence, over the state that the reading is in.
+-- entered in its turn, with its entry constraint and its EXRS. By recursion along the sequence, over the state that the reading is in.
 use Prim.Native.Nat.{ℕ, zero, suc, _+_, _≤_, _<_}
 use native.Mathlib.Omega.{arith}
-use mathlib.Core.Path.{_≡_, refl, sym, ap, _∙_}
+use mathlib.Core.Path.{_≡_, refl, sym, ap, ap₂, _∙_}
 use mathlib.Core.Bool.{Bool, true, false, _&&_, true≢false, false≢true}
 use mathlib.Core.List.{List, [], _∷_, _++_, append-nil, append-assoc}
 use mathlib.Core.Option.{Option, none, some}
@@ -10,14 +10,16 @@ use lib.ListN.{length, length-append}
 use lib.Dec.{eqb}
 use borrow.Author.Tests.{eqb-true, eq-eqb, ne-eqb, lt-leb}
 use Rattle.model.specs.declared.Domain.{Domain}
-use Rattle.model.specs.Lists.{among, allDifferent, same}
-use Rattle.model.specs.Subobject.{Subobject}
-use Rattle.model.specs.Sequence.{Stop, stop, Waiting, ReadingInput, waitingFor, stopWith, State, Reading, good, continue, domainOf, hasArea, ofSystem, ofArea, pinOf, added, domainsOf, enter, name, withSystem, areaNext, readSystem, readOne, readAll, startIn, meaning}
+use Rattle.model.specs.Lists.{among, allDifferent, each, same}
+use Rattle.model.specs.Along.{placesAlong}
+use Rattle.model.specs.Subobject.{Named, prefix, system, area, stretch, Subobject, subobjects}
+use Rattle.model.specs.Sequence.{Stop, stop, entry, exclusions, Waiting, nodeOr, bytesIn, exrsOf, ReadingInput, waitingFor, stopWith, State, Reading, good, continue, domainOf, hasArea, ofSystem, ofArea, pinOf, added, domainsOf, enter, name, withSystem, areaNext, readSystem, readOne, readAll, startIn, meaning}
 use Rattle.model.specs.WrittenList.{written}
 use Rattle.laws.proofs.Tests.{and-both, both-and, clash}
-use Rattle.laws.proofs.Lists.{map-append}
+use Rattle.laws.proofs.Lists.{map-append, each-append}
 use Rattle.laws.proofs.NumberLists.{keep-one, same-equal, same-self, different-fresh, different-behind, among-last, different-next}
-use Rattle.laws.proofs.Subobjects.{Item, placed}
+use Rattle.laws.proofs.Subobjects.{Item, joined, placed}
+use Rattle.laws.proofs.Exrs.{itemsNamed, exrsItems, items-bytes}
 use Rattle.laws.proofs.WrittenForm.{areaOf, areaItem, systemItem, pinItem}
 use Rattle.laws.proofs.WrittenItems.{pinItems, systemItems, areaItems, domainItems, itemsFrom, Writable, written-subobjects}
 use Rattle.laws.proofs.SoundDomains.{SoundDomains}
@@ -36,6 +38,30 @@ enter-new
     → enter o st d ≡ good (added st d)
 unfolding enter
 enter-new o st d away fresh room = rw (ne-eqb d (st .here) away, fresh, lt-leb 16 (length (st .sequence)) room)
+
+-- ---- what waits
+
+pin-snoc : (w : List Waiting) (o : ℕ) (bytes : List ℕ) → pinOf (w ++ (waitingFor o (exclusions bytes) ∷ [])) ≡ pinOf w
+pin-snoc [] o bytes = refl
+pin-snoc (x ∷ w) o bytes = ap (nodeOr (x .what)) (pin-snoc w o bytes)
+
+exrs-snoc : (w : List Waiting) (o : ℕ) (bytes : List ℕ) → exrsOf (w ++ (waitingFor o (exclusions bytes) ∷ [])) ≡ exrsOf w ++ bytes
+unfolding exrsOf each
+exrs-snoc w o bytes =
+    each-append (λ (x : Waiting). bytesIn (x .what)) w (waitingFor o (exclusions bytes) ∷ [])
+    ∙ ap {B = List ℕ} (λ (l : List ℕ). exrsOf w ++ l) (append-nil bytes)
+
+-- EXRS before something that isn't an area
+exrs-calm : (subs : List Subobject) (tail : List Item) → ((o : ℕ) → areaNext (placed o tail) ≡ false) → (o : ℕ) → areaNext (placed o (exrsItems subs ++ tail)) ≡ false
+unfolding exrsItems each
+exrs-calm [] tail calm o = calm o
+exrs-calm (x ∷ subs) tail calm o = go (x .names) (exrs-calm subs tail calm o)
+  where
+    go : (n : Named) → areaNext (placed o (exrsItems subs ++ tail)) ≡ false → areaNext (placed o ((itemsNamed n ++ exrsItems subs) ++ tail)) ≡ false
+    go (prefix a n) later = later
+    go (system n) later = later
+    go (area a) later = later
+    go (stretch bytes) later = refl
 
 -- ---- naming a domain
 
@@ -111,15 +137,44 @@ module _ (R : ReadingInput) (sound : SoundDomains (R .domains)) where
   -- an entry constraint that is written waits; where none is, none does
   pin-read
       : (pin : Option ℕ) (asn here : ℕ) (sequence : List Stop) (tail : List Item) (result : Reading (List Stop))
-      → ((o : ℕ) (w : List Waiting) → pinOf w ≡ pin → readAll R (placed o tail) (record { asn = asn; here = here; sequence = sequence; waiting = w }) ≡ result)
+      → ((o : ℕ) (w : List Waiting) → pinOf w ≡ pin → exrsOf w ≡ [] → readAll R (placed o tail) (record { asn = asn; here = here; sequence = sequence; waiting = w }) ≡ result)
       → (o : ℕ)
       → readAll R (placed o (pinItems pin ++ tail)) (record { asn = asn; here = here; sequence = sequence; waiting = [] }) ≡ result
-  unfolding readAll readOne
-  pin-read none asn here sequence tail result next o = next o [] refl
+  unfolding readAll readOne exrsOf each
+  pin-read none asn here sequence tail result next o = next o [] refl refl
   pin-read (some node) asn here sequence tail result next o =
-      next (o + length (pinItem node .bytes)) (waitingFor o node ∷ []) refl
+      next (o + length (pinItem node .bytes)) (waitingFor o (entry node) ∷ []) refl refl
 
-  -- behind a domain of kind 0 comes a constraint, another AS or nothing
+  -- the EXRS that are written wait beside it, in their order: the rest is read with all of them waiting
+  abbrev Behind : ℕ → ℕ → List Stop → List Item → Reading (List Stop) → List Waiting → List Item → Type 0
+  Behind asn here sequence tail result w items =
+      (o : ℕ) (w′ : List Waiting) → pinOf w′ ≡ pinOf w → exrsOf w′ ≡ exrsOf w ++ joined items
+      → readAll R (placed o tail) (record { asn = asn; here = here; sequence = sequence; waiting = w′ }) ≡ result
+
+  exrs-read
+      : (subs : List Subobject) (asn here : ℕ) (sequence : List Stop) (tail : List Item) (result : Reading (List Stop)) (w : List Waiting)
+      → Behind asn here sequence tail result w (exrsItems subs)
+      → (o : ℕ)
+      → readAll R (placed o (exrsItems subs ++ tail)) (record { asn = asn; here = here; sequence = sequence; waiting = w }) ≡ result
+  unfolding readAll readOne exrsItems each
+  exrs-read [] asn here sequence tail result w next o = next o w refl (sym (append-nil (exrsOf w)))
+  exrs-read (x ∷ subs) asn here sequence tail result w next o = go (x .names) next (λ w₁ more o₁. exrs-read subs asn here sequence tail result w₁ more o₁)
+    where
+      go : (n : Named)
+          → Behind asn here sequence tail result w (itemsNamed n ++ exrsItems subs)
+          → ((w₁ : List Waiting) → Behind asn here sequence tail result w₁ (exrsItems subs) → (o₁ : ℕ) → readAll R (placed o₁ (exrsItems subs ++ tail)) (record { asn = asn; here = here; sequence = sequence; waiting = w₁ }) ≡ result)
+          → readAll R (placed o ((itemsNamed n ++ exrsItems subs) ++ tail)) (record { asn = asn; here = here; sequence = sequence; waiting = w }) ≡ result
+      go (prefix a n) more later = later w more o
+      go (system n) more later = later w more o
+      go (area a) more later = later w more o
+      go (stretch bytes) more later =
+          later (w ++ (waitingFor o (exclusions bytes) ∷ []))
+          (λ o′ w′ p e.
+          more o′ w′ (p ∙ pin-snoc w o bytes)
+          (e ∙ ap {B = List ℕ} (λ (l : List ℕ). l ++ joined (exrsItems subs)) (exrs-snoc w o bytes) ∙ append-assoc (exrsOf w) bytes (joined (exrsItems subs))))
+          (o + length bytes)
+
+  -- behind a domain of kind 0 comes a constraint, an EXRS, another AS or nothing
   quiet
       : (d : ℕ) (rest : List Stop)
       → d < length ds
@@ -135,12 +190,15 @@ module _ (R : ReadingInput) (sound : SoundDomains (R .domains)) where
       ne-eqb (Q .asn) ((domainOf ds d) .asn)
       (λ e. different-next d (q .domain) (domainsOf more) t (sound .alone d (q .domain) h (w .0) k (sym e))) in
       let later = itemsFrom ds (some (Q .asn)) more in
-      go (q .pin) (eqb (Q .asn) ((domainOf ds d) .asn)) other Q later
+      go (q .pin) _ (exrs-calm (subobjects (q .exrs)) (domainItems (eqb (Q .asn) ((domainOf ds d) .asn)) Q ++ later) (λ o′. named-calm o′ (eqb (Q .asn) ((domainOf ds d) .asn)) other Q later) o)
     where
-      go : (pin : Option ℕ) (again : Bool) → again ≡ false → (D : Domain) (later : List Item) → areaNext (placed o (pinItems pin ++ (domainItems again D ++ later))) ≡ false
-      go none true e D later = absurd (true≢false e)
-      go none false e D later = refl
-      go (some node) again e D later = refl
+      named-calm : (o′ : ℕ) (again : Bool) → again ≡ false → (D : Domain) (later : List Item) → areaNext (placed o′ (domainItems again D ++ later)) ≡ false
+      named-calm o′ true e D later = absurd (true≢false e)
+      named-calm o′ false e D later = refl
+
+      go : (pin : Option ℕ) (items : List Item) → areaNext (placed o items) ≡ false → areaNext (placed o (pinItems pin ++ items)) ≡ false
+      go none items e = e
+      go (some node) items e = refl
 
   -- The reading stands in the last domain of what is read so far, with its AS as current and nothing waiting: the rest of the sequence is read behind it.
   rest-read
@@ -166,43 +224,49 @@ module _ (R : ReadingInput) (sound : SoundDomains (R .domains)) where
       let others : allDifferent (domainsOf (done ++ (p ∷ [])) ++ domainsOf rest) ≡ true = rw (longer, append-assoc) t in
       let later = itemsFrom ds (some (D .asn)) rest in
       let result : Reading (List Stop) = good (done ++ (p ∷ rest)) in
-      pin-read (p .pin) n last done (domainItems (eqb (D .asn) n) D ++ later) result
-      (λ o′ wait e.
+      let subs = subobjects (p .exrs) in
+      pin-read (p .pin) n last done (exrsItems subs ++ (domainItems (eqb (D .asn) n) D ++ later)) result
+      (λ o₁ wait₁ e₁ none-yet.
+      exrs-read subs n last done (domainItems (eqb (D .asn) n) D ++ later) result wait₁
+      (λ o′ wait e₂ all.
       let st : State = record { asn = n; here = last; sequence = done; waiting = wait } in
-      let itself : stopWith d wait ≡ p = ap (stop d) e in
+      let bytes : exrsOf wait ≡ p .exrs = all ∙ ap {B = List ℕ} (λ (l : List ℕ). l ++ joined (exrsItems subs)) none-yet ∙ items-bytes subs ∙ w .2 .0 .those in
+      let itself : stopWith d wait ≡ p = ap₂ (stop d) (e₂ ∙ e₁) bytes in
       domain-read st (added (withSystem st (D .asn)) d) d (w .0) later result (λ o″. enter-new o″ (withSystem st (D .asn)) d away fresh (omega arith))
       (λ o″.
       ap (λ (x : Stop). readAll R (placed o″ later) (record { asn = D .asn; here = d; sequence = done ++ (x ∷ []); waiting = [] })) itself
-      ∙ rest-read rest (done ++ (p ∷ [])) d (w .0) (rw longer (among-last (domainsOf done) d)) (w .2) others (omega (arith, length-append done (p ∷ []))) o″
+      ∙ rest-read rest (done ++ (p ∷ [])) d (w .0) (rw longer (among-last (domainsOf done) d)) (w .3) others (omega (arith, length-append done (p ∷ []))) o″
       ∙ ap good (append-assoc done (p ∷ []) rest))
-      (quiet d rest (w .0) (w .2) behind)
+      (quiet d rest (w .0) (w .3) behind)
       (eqb (D .asn) n)
       (λ again. (sym (eqb-true (D .asn) n again), λ k. away (sound .alone d last (w .0) h k (eqb-true (D .asn) n again))))
       o′)
+      o₁)
       o
 
-  -- The whole list, read in its first domain, which has no entry constraint: naming the domain one is in adds nothing.
+  -- The whole list, read in its first domain, which has no entry constraint and no EXRS: naming the domain one is in adds nothing.
   pub stops-read
       : (p : Stop) (rest : List Stop)
       → p .pin ≡ none
+      → p .exrs ≡ []
       → Writable ds (p ∷ rest)
       → allDifferent (domainsOf (p ∷ rest)) ≡ true
       → length (p ∷ rest) ≤ 16
       → meaning R (p .domain) (written ds (p ∷ rest)) ≡ good (p ∷ rest)
-  unfolding meaning
-  stops-read p rest e w t r =
+  unfolding meaning exrsItems each exrsOf subobjects placesAlong
+  stops-read p rest e x w t r =
       let d = p .domain in
       let D = domainOf ds d in
       let later = itemsFrom ds (some (D .asn)) rest in
-      let itself : stopWith d [] ≡ p = ap (stop d) (sym e) in
+      let itself : stopWith d [] ≡ p = ap₂ (stop d) (sym e) (sym x) in
       let start : State = startIn R d in
       ap (λ (subs : List Subobject). readAll R subs start) (written-subobjects ds sound (p ∷ rest) w)
-      ∙ ap (λ (pin : Option ℕ). readAll R (placed 0 (pinItems pin ++ (domainItems false D ++ later))) start) e
+      ∙ ap₂ (λ (pin : Option ℕ) (exrs : List ℕ). readAll R (placed 0 (pinItems pin ++ (exrsItems (subobjects exrs) ++ (domainItems false D ++ later)))) start) e x
       ∙ domain-read start start d (w .0) later (good (p ∷ rest)) (λ o. enter-here o start d refl)
       (λ o.
       ap (λ (x : Stop). readAll R (placed o later) (record { asn = D .asn; here = d; sequence = x ∷ []; waiting = [] })) itself
-      ∙ rest-read rest (p ∷ []) d (w .0) (among-last [] d) (w .2) t (omega arith) o)
-      (quiet d rest (w .0) (w .2) t)
+      ∙ rest-read rest (p ∷ []) d (w .0) (among-last [] d) (w .3) t (omega arith) o)
+      (quiet d rest (w .0) (w .3) t)
       false
       (λ again. absurd (false≢true again))
       0

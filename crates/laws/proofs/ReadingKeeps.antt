@@ -3,6 +3,7 @@
 use mathlib.Core.Path.{_≡_, refl, subst}
 use mathlib.Core.Bool.{Bool, true, false}
 use mathlib.Core.List.{List, [], _∷_, _++_, List·Memᴰ, List·Memᴰ·head}
+use mathlib.Core.Option.{Option, none, some}
 use Prim.Native.Nat.{ℕ, _<_}
 use native.Mathlib.Omega.{arith}
 use lib.ListN.{length}
@@ -11,8 +12,8 @@ use borrow.Author.Tests.{leb-false}
 use Rattle.model.specs.declared.Domain.{Domain}
 use Rattle.model.specs.declared.Refusal.{Refusal}
 use Rattle.model.specs.Lists.{among, countFrom}
-use Rattle.model.specs.Subobject.{Area, Named, prefix, system, area, Subobject, subobjects}
-use Rattle.model.specs.Sequence.{Stop, ReadingInput, stopWith, Waiting, State, Reading, refused, good, continue, added, enterIf, domainsOf, enter, name, withSystem, wait, areaNext, ofSystem, ofArea, readSystem, readNamed, readOne, finish, readAll, startIn, meaning}
+use Rattle.model.specs.Subobject.{Area, Named, prefix, system, area, stretch, Subobject, subobjects}
+use Rattle.model.specs.Sequence.{Stop, ReadingInput, pinOf, stopWith, Waiting, State, Reading, refused, good, continue, added, enterIf, domainsOf, enter, name, withSystem, wait, areaNext, ofSystem, ofArea, readSystem, readNamed, readOne, finish, readAll, startIn, meaning}
 use Rattle.laws.proofs.Lists.{keep-mem, countFrom-mem}
 
 -- ---- readings that are good
@@ -87,9 +88,9 @@ module _ (R : ReadingInput) (P : List Stop → Type 0) (grows : Grows (R .domain
     keeps-name at (d ∷ []) inside = keeps-enterIf (eqb d (st .here)) (among d (domainsOf (st .sequence))) (leb 16 (length (st .sequence))) at d (inside d (List·Memᴰ·head refl)) refl refl
     keeps-name at (d ∷ e ∷ rest) inside = λ st′ g. refused-good _ st′ g
 
-    keeps-wait : (at node : ℕ) (w : List Waiting) → Keeps (wait at st node w)
-    keeps-wait at node [] = keeps-good _ h
-    keeps-wait at node (w ∷ more) = λ st′ g. refused-good _ st′ g
+    keeps-wait : (at node : ℕ) (waits : Option ℕ) → Keeps (wait at st node waits)
+    keeps-wait at node none = keeps-good _ h
+    keeps-wait at node (some other) = λ st′ g. refused-good _ st′ g
 
   module _ (s : Subobject) (st : State) (h : P (st .sequence)) where
     keeps-system : (n : ℕ) (next : Bool) → Keeps (readSystem R (s .offset) st n next)
@@ -97,9 +98,10 @@ module _ (R : ReadingInput) (P : List Stop → Type 0) (grows : Grows (R .domain
     keeps-system n false = keeps-name (withSystem st n) h (s .offset) (ofSystem ds n) (system-inside ds n)
 
     keeps-named : (next : Bool) (x : Named) → Keeps (readNamed R s st next x)
-    keeps-named next (prefix a n) = keeps-wait st h (s .offset) a (st .waiting)
+    keeps-named next (prefix a n) = keeps-wait st h (s .offset) a (pinOf (st .waiting))
     keeps-named next (system n) = keeps-system n next
     keeps-named next (area a) = keeps-name st h (s .offset) (ofArea ds (st .asn) a) (area-inside ds (st .asn) a)
+    keeps-named next (stretch bytes) = keeps-good _ h
 
   keeps-finish : (st : State) → P (st .sequence) → (w : List Waiting) (sequence : List Stop) → finish st w ≡ good sequence → P sequence
   keeps-finish st h [] sequence e = subst P (good-same (st .sequence) sequence e) h

@@ -6,6 +6,7 @@ use mathlib.Core.Path.{_≡_, sym, ap, subst}
 use mathlib.Core.Logic.{⊎-elim}
 use mathlib.Core.Bool.{Bool, true, false, not, _&&_, _||_}
 use mathlib.Core.List.{List, [], _∷_}
+use mathlib.Core.Option.{Option, none, some}
 use lib.ListN.{length}
 use lib.Dec.{eqb, leb, ltb}
 use borrow.Author.Tests.{ltb-true, ltb-false}
@@ -20,8 +21,8 @@ use Rattle.model.specs.Along.{checkedAlong}
 use Rattle.model.specs.Profile.{Layout, classOf, domainCount, hopCount, headerWrong, countsWrong, lengthWrong, headerVerdict, domainAt, domains, domainMalformed, domainMisordered, domainVerdict, hopAt, hopMalformed, hopMisordered, hopVerdict, crowded, crowdedVerdict, profileVerdict, layoutIn}
 use Rattle.model.specs.Reserved.{asRanges, addressRanges, misplaced}
 use Rattle.model.specs.Floats.{inRange}
-use Rattle.model.specs.Subobject.{Named, prefix, system, area, Subobject, known, lengthFits, topAt, typeAt, areaLengthAt, topWrong, prefixWrong, paddingWrong, lengthAt, subobjectVerdict, formVerdict, subobjects, afterSubobject}
-use Rattle.model.specs.Sequence.{Waiting, ReadingInput, State, Reading, refused, good, refuse, continue, enterIf, domainsOf, enter, name, wait, areaNext, readSystem, readNamed, readOne, finish, readAll, startIn, meaning, ofSystem, ofArea, withSystem}
+use Rattle.model.specs.Subobject.{Named, prefix, system, area, stretch, Subobject, known, lengthFits, topAt, typeAt, areaLengthAt, topWrong, prefixWrong, paddingWrong, lengthAt, plainVerdict, carriedVerdict, carriedIf, subobjectVerdict, formVerdict, subobjects, afterSubobject}
+use Rattle.model.specs.Sequence.{Stop, Waits, entry, exclusions, Waiting, pinOf, leftOver, ReadingInput, State, Reading, refused, good, refuse, continue, enterIf, domainsOf, enter, name, wait, areaNext, readSystem, readNamed, readOne, finish, readAll, startIn, meaning, ofSystem, ofArea, withSystem}
 use Rattle.model.specs.Request.{Request, layoutFor, readingInput, provided, requestVerdict, sequenceOf, sizesVerdict, formsVerdict, requestVerdictWith}
 use Rattle.model.specs.Calls.{readingOf}
 use Rattle.laws.proofs.Tests.{decide}
@@ -111,9 +112,9 @@ module _ (most : ℕ) (high : 35 ≤ most) where
       (turns (hopVerdict L s) (hop-refusing L s) 0 (hopCount s)))
       (turns (crowdedVerdict L s) (crowded-refusing L s) 0 (hopCount s))
 
-  pub subobject-refusing : (k : ListKind) (s : List ℕ) (end at : ℕ) → Refusing most (subobjectVerdict k s end at)
-  unfolding subobjectVerdict
-  subobject-refusing k s end at =
+  pub plain-refusing : (k : ListKind) (s : List ℕ) (end at : ℕ) → Refusing most (plainVerdict k s end at)
+  unfolding plainVerdict
+  plain-refusing k s end at =
       let t = typeAt s at in
       more
       (more
@@ -141,6 +142,19 @@ module _ (most : ℕ) (high : 35 ≤ most) where
       26
       at
       (omega arith)
+
+  carried-refusing : (b : Bool) (s : List ℕ) (at : ℕ) → Refusing most (carriedIf b s at)
+  unfolding carriedVerdict
+  carried-refusing true s at =
+      let end = afterSubobject s at in
+      both (test (eqb (lengthAt s at) 4) 26 at (omega arith))
+      (along (plainVerdict Exclude s end) (afterSubobject s) end (plain-refusing Exclude s end) (end - (at + 4)) (at + 4))
+  carried-refusing false s at = passing
+
+  pub subobject-refusing : (k : ListKind) (s : List ℕ) (end at : ℕ) → Refusing most (subobjectVerdict k s end at)
+  unfolding subobjectVerdict
+  subobject-refusing Include s end at = both (plain-refusing Include s end at) (carried-refusing (eqb (typeAt s at) 33) s at)
+  subobject-refusing Exclude s end at = plain-refusing Exclude s end at
 
   pub list-refusing : (k : ListKind) (s : List ℕ) → Refusing most (formVerdict k s)
   unfolding formVerdict
@@ -181,32 +195,39 @@ module _ (most : ℕ) (high : 35 ≤ most) where
   name-reads at st (d ∷ []) = enter-reads (eqb d (st .here)) (among d (domainsOf (st .sequence))) (leb 16 (length (st .sequence))) at st d
   name-reads at st (d ∷ e ∷ rest) = bad 29 at (omega arith)
 
-  wait-reads : (at : ℕ) (st : State) (node : ℕ) (w : List Waiting) → Reads most (wait at st node w)
-  wait-reads at st node [] = fine _
-  wait-reads at st node (w ∷ more) = bad 32 at (omega arith)
+  wait-reads : (at : ℕ) (st : State) (node : ℕ) (waits : Option ℕ) → Reads most (wait at st node waits)
+  wait-reads at st node none = fine _
+  wait-reads at st node (some other) = bad 32 at (omega arith)
 
   system-reads : (R : ReadingInput) (at : ℕ) (st : State) (n : ℕ) (next : Bool) → Reads most (readSystem R at st n next)
   system-reads R at st n true = fine _
   system-reads R at st n false = name-reads at (withSystem st n) (ofSystem (R .domains) n)
 
   named-reads : (R : ReadingInput) (s : Subobject) (st : State) (next : Bool) (names : Named) → Reads most (readNamed R s st next names)
-  named-reads R s st next (prefix a n) = wait-reads (s .offset) st a (st .waiting)
+  named-reads R s st next (prefix a n) = wait-reads (s .offset) st a (pinOf (st .waiting))
   named-reads R s st next (system n) = system-reads R (s .offset) st n next
   named-reads R s st next (area a) = name-reads (s .offset) st (ofArea (R .domains) (st .asn) a)
+  named-reads R s st next (stretch bytes) = fine _
 
-  finish-reads : (st : State) (w : List Waiting) → Reads most (finish st w)
-  finish-reads st [] = fine _
-  finish-reads st (w ∷ more) = bad 32 (w .offset) (omega arith)
+  -- 42 is the highest number of a reading
+  module _ (left : 42 ≤ most) where
+    left-reads : (at : ℕ) (what : Waits) → Reads {A = List Stop} most (refuse (leftOver what) at)
+    left-reads at (entry node) = bad 32 at (omega arith)
+    left-reads at (exclusions bytes) = bad 42 at (omega arith)
 
-  all-reads : (R : ReadingInput) (subs : List Subobject) (st : State) → Reads most (readAll R subs st)
-  unfolding readAll readOne
-  all-reads R [] st = finish-reads st (st .waiting)
-  all-reads R (s ∷ rest) st =
-      continue-reads (readOne R st s (areaNext rest)) (λ (next : State). readAll R rest next) (named-reads R s st (areaNext rest) (s .names)) (all-reads R rest)
+    finish-reads : (st : State) (w : List Waiting) → Reads most (finish st w)
+    finish-reads st [] = fine _
+    finish-reads st (w ∷ more) = left-reads (w .offset) (w .what)
 
-  pub meaning-reads : (R : ReadingInput) (ingress : ℕ) (list : List ℕ) → Reads most (meaning R ingress list)
-  unfolding meaning
-  meaning-reads R ingress list = all-reads R (subobjects list) (startIn R ingress)
+    all-reads : (R : ReadingInput) (subs : List Subobject) (st : State) → Reads most (readAll R subs st)
+    unfolding readAll readOne
+    all-reads R [] st = finish-reads st (st .waiting)
+    all-reads R (s ∷ rest) st =
+        continue-reads (readOne R st s (areaNext rest)) (λ (next : State). readAll R rest next) (named-reads R s st (areaNext rest) (s .names)) (all-reads R rest)
+
+    pub meaning-reads : (R : ReadingInput) (ingress : ℕ) (list : List ℕ) → Reads most (meaning R ingress list)
+    unfolding meaning
+    meaning-reads R ingress list = all-reads R (subobjects list) (startIn R ingress)
 
   -- ---- a whole request, and a list alone
 
@@ -235,15 +256,15 @@ module _ (most : ℕ) (high : 35 ≤ most) where
   unfolding requestVerdict
   request-refusing r = refusing-with passing passing r
 
-  pub sequence-reads : (r : Request) → Reads most (sequenceOf r)
+  pub sequence-reads : 42 ≤ most → (r : Request) → Reads most (sequenceOf r)
   unfolding sequenceOf
-  sequence-reads r = provided-reads (request-refusing r) (meaning-reads (readingInput (r .profile)) (r .ingress) (r .include))
+  sequence-reads left r = provided-reads (request-refusing r) (meaning-reads left (readingInput (r .profile)) (r .ingress) (r .include))
 
-  pub reading-reads : (profile : List ℕ) (ingress : ℕ) (list : List ℕ) → Reads most (readingOf profile ingress list)
+  pub reading-reads : 42 ≤ most → (profile : List ℕ) (ingress : ℕ) (list : List ℕ) → Reads most (readingOf profile ingress list)
   unfolding readingOf
-  reading-reads profile ingress list =
+  reading-reads left profile ingress list =
       provided-reads
       (both
       (more (more (profile-refusing (layoutIn profile) profile) (leb (domainCount profile) ingress) 20 0 (omega arith)) (ltb 1024 (length list)) 22 0 (omega arith))
       (list-refusing Include list))
-      (meaning-reads (readingInput profile) ingress list)
+      (meaning-reads left (readingInput profile) ingress list)

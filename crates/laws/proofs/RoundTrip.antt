@@ -2,7 +2,7 @@
 -- and enough room, answers the sequence that was written. By `reads-back`; that 0 is answered for a written list alone follows from the refusals' numbers.
 use Prim.Native.Nat.{ℕ, zero, suc, _+_, _^_, _≤_, _<_}
 use native.Mathlib.Omega.{arith}
-use mathlib.Core.Path.{_≡_, refl, ap, _∙_}
+use mathlib.Core.Path.{_≡_, refl, ap, ap₂, _∙_}
 use mathlib.Core.Bool.{Bool, true, false, _||_}
 use mathlib.Core.List.{List}
 use lib.ListN.{length, getD}
@@ -16,9 +16,10 @@ use Rattle.model.specs.Reserved.{asRanges, addressRanges, misplaced}
 use Rattle.model.specs.Profile.{Layout, layoutIn, classOf, domainCount, hopCount, headerWrong, countsWrong, lengthWrong, headerVerdict, domainAt, domainMalformed, domainMisordered, domainVerdict, hopAt, hopMalformed, hopMisordered, hopVerdict, crowded, crowdedVerdict, profileVerdict, domains, verdictOn}
 use Rattle.model.specs.Sequence.{Stop, Reading}
 use Rattle.model.specs.WrittenList.{stops, written, unwritable}
-use Rattle.model.specs.Answers.{Numbers, done2}
-use Rattle.model.specs.Calls.{Outcome, answerWrite, answerRead, writeList, readingOf, readInto, readInclude}
-use Rattle.laws.proofs.Stops.{stops-count, accepts}
+use Rattle.model.specs.Answers.{Numbers, done2, done3}
+use Rattle.model.specs.Calls.{Outcome, answerWrite, answerRead, allExrs, writeList, readingOf, readInto, readInclude}
+use Rattle.laws.proofs.BigEndian.{Bytes}
+use Rattle.laws.proofs.Stops.{stops-count, stops-exrs, accepts}
 use Rattle.laws.proofs.ReadsBack.{reads-back}
 
 -- ---- a refusal's number is not 0
@@ -74,21 +75,21 @@ module _ (L : Layout) (s : List ℕ) where
 
 -- ---- a list was written
 
-module _ (profile indexes marks nodes : List ℕ) where
+module _ (profile indexes marks nodes counts exrs : List ℕ) where
   bytes : List ℕ
-  bytes = written (domains profile) (stops indexes marks nodes)
+  bytes = written (domains profile) (stops indexes marks nodes counts exrs)
 
   -- the profile was accepted and the sequence can be written; the bytes are those of the written list
   pub record Wrote (n room : ℕ) : Type 0 where
     pub accepted : verdictOn profile ≡ Pass
-    pub writable : unwritable (domains profile) indexes marks nodes ≡ false
-    pub bytes-written : (writeList profile indexes marks nodes room) .written ≡ written (domains profile) (stops indexes marks nodes)
-    pub size : n ≡ length (written (domains profile) (stops indexes marks nodes))
+    pub writable : unwritable (domains profile) indexes marks nodes counts exrs ≡ false
+    pub bytes-written : (writeList profile indexes marks nodes counts exrs room) .written ≡ written (domains profile) (stops indexes marks nodes counts exrs)
+    pub size : n ≡ length (written (domains profile) (stops indexes marks nodes counts exrs))
 
-  wrote-by : (n room : ℕ) (v : Verdict) (u s : Bool) → Numbered v → verdictOn profile ≡ v → unwritable (domains profile) indexes marks nodes ≡ u
+  wrote-by : (n room : ℕ) (v : Verdict) (u s : Bool) → Numbered v → verdictOn profile ≡ v → unwritable (domains profile) indexes marks nodes counts exrs ≡ u
       → ltb room (length bytes) ≡ s
-      → writeList profile indexes marks nodes room ≡ answerWrite (v andThen refuseIf u 35 0 andThen refuseIf s 34 0) bytes
-      → done2 n ≡ (writeList profile indexes marks nodes room) .numbers
+      → writeList profile indexes marks nodes counts exrs room ≡ answerWrite (v andThen refuseIf u 35 0 andThen refuseIf s 34 0) bytes
+      → done2 n ≡ (writeList profile indexes marks nodes counts exrs room) .numbers
       → Wrote n room
   unfolding bytes
   wrote-by n room v u s (numbers {r = r} h) e f g o d =
@@ -108,23 +109,26 @@ module _ (profile indexes marks nodes : List ℕ) where
         size = ap (λ (x : Numbers). getD (x .others) 1 0) (d ∙ ap (λ (x : Outcome ℕ). x .numbers) o);
       }
 
-  pub wrote : (n room : ℕ) → done2 n ≡ (writeList profile indexes marks nodes room) .numbers → Wrote n room
+  pub wrote : (n room : ℕ) → done2 n ≡ (writeList profile indexes marks nodes counts exrs room) .numbers → Wrote n room
   unfolding writeList bytes
   wrote n room d = wrote-by n room _ _ _ (numbered-profile (layoutIn profile) profile) refl refl refl refl d
 
-  -- what was written is read again: the sequence, as many domains as were given
-  pub read-again : (n room capacity : ℕ) → ((i : ℕ) → getD profile i 0 < 256) → ((i : ℕ) → getD nodes i 0 < 2 ^ 32)
-      → done2 n ≡ (writeList profile indexes marks nodes room) .numbers
+  -- what was written is read again: the sequence, as many domains and bytes of EXRS as were given
+  pub read-again : (n room capacity spare : ℕ) → Bytes profile → ((i : ℕ) → getD nodes i 0 < 2 ^ 32) → Bytes exrs
+      → done2 n ≡ (writeList profile indexes marks nodes counts exrs room) .numbers
       → length indexes ≤ capacity
-      → readInclude profile (getD indexes 0 0) ((writeList profile indexes marks nodes room) .written) capacity
-      ≡ record { numbers = done2 (length indexes); written = stops indexes marks nodes }
+      → length exrs ≤ spare
+      → readInclude profile (getD indexes 0 0) ((writeList profile indexes marks nodes counts exrs room) .written) capacity spare
+      ≡ record { numbers = done3 (length indexes) (length exrs); written = stops indexes marks nodes counts exrs }
   unfolding readInclude
-  read-again n room capacity profile-bytes addresses d fits =
+  read-again n room capacity spare profile-bytes addresses exrs-bytes d fits fits-too =
       let w = wrote n room d in
-      let a = accepts (domains profile) indexes marks nodes (w .writable) in
-      let sequence : List Stop = stops indexes marks nodes in
-      let count : length sequence ≡ length indexes = stops-count indexes marks nodes (a .as-many-marks) (a .as-many-nodes) in
-      ap (λ (l : List ℕ). readInto (readingOf profile (getD indexes 0 0) l) capacity) (w .bytes-written)
-      ∙ ap (λ (r : Reading (List Stop)). readInto r capacity) (reads-back profile indexes marks nodes profile-bytes addresses (w .accepted) (w .writable))
-      ∙ ap (λ (b : Bool). answerRead (refuseIf b 34 0) sequence) (le-ltb capacity (length sequence) (omega arith))
-      ∙ ap (λ (k : ℕ). record { numbers = done2 k; written = sequence }) count
+      let a = accepts (domains profile) indexes marks nodes counts exrs (w .writable) in
+      let sequence : List Stop = stops indexes marks nodes counts exrs in
+      let count : length sequence ≡ length indexes = stops-count indexes marks nodes counts exrs (a .as-many-marks) (a .as-many-nodes) (a .as-many-counts) in
+      let all : allExrs sequence ≡ exrs = stops-exrs indexes marks nodes counts exrs (a .as-many-marks) (a .as-many-nodes) (a .as-many-counts) (a .all-bytes) in
+      ap (λ (l : List ℕ). readInto (readingOf profile (getD indexes 0 0) l) capacity spare) (w .bytes-written)
+      ∙ ap (λ (r : Reading (List Stop)). readInto r capacity spare) (reads-back profile indexes marks nodes counts exrs profile-bytes addresses exrs-bytes (w .accepted) (w .writable))
+      ∙ ap₂ (λ (b c : Bool). answerRead (refuseIf b 34 0 andThen refuseIf c 34 0) sequence) (le-ltb capacity (length sequence) (omega arith))
+      (le-ltb spare (length (allExrs sequence)) (omega (arith, ap length all)))
+      ∙ ap₂ (λ (k m : ℕ). record { numbers = done3 k m; written = sequence }) count (ap length all)

@@ -4,7 +4,7 @@ use mathlib.Core.Path.{_≡_, refl, sym, subst, ap, _∙_}
 use mathlib.Core.Logic.{_⊎_, ⊎-elim}
 use mathlib.Core.Bool.{Bool, true, false, not}
 use mathlib.Core.List.{List, [], _∷_}
-use Prim.Native.Nat.{ℕ}
+use Prim.Native.Nat.{ℕ, suc}
 use lib.ListN.{length, getD}
 use lib.Dec.{eqb, ltb}
 use Rattle.model.specs.declared.Round.{Round}
@@ -41,11 +41,15 @@ pub record SameEntries (o o′ : Outcome TreeEntry) : Type 0 where
   pub written : o .written ≡ o′ .written
   pub many : length (o .numbers .others) ≡ length (o′ .numbers .others)
 
--- what is found in the rounds that apply is the same; the rounds are the same or there is no path, and the same where X set comes up in both lists or neither
-pub record SameRound (r r′ : Request) (sequence : List Stop) : Type 0 where
-  pub found : SameFound (searchOf r sequence) (searchOf r′ sequence)
-  pub round : (roundOf r sequence ≡ roundOf r′ sequence) ⊎ (shortestPaths (searchOf r sequence) ≡ [])
-  pub clear : someDesired (allExclusions (r .exclude) sequence) ≡ someDesired (allExclusions (r′ .exclude) sequence) → roundOf r sequence ≡ roundOf r′ sequence
+-- two requests with their sequences: what is found in the rounds that apply is the same; the rounds are the same or there is no path, and the same where X set
+-- comes up among all exclusions of both or of neither
+pub record SameRound (r r′ : Request) (sequence sequence′ : List Stop) : Type 0 where
+  pub long : length sequence ≡ length sequence′
+  pub found : SameFound (searchOf r sequence) (searchOf r′ sequence′)
+  pub round : (roundOf r sequence ≡ roundOf r′ sequence′) ⊎ (shortestPaths (searchOf r sequence) ≡ [])
+  pub clear
+      : someDesired (allExclusions (r .exclude) sequence) ≡ someDesired (allExclusions (r′ .exclude) sequence′)
+      → roundOf r sequence ≡ roundOf r′ sequence′
 
 -- ---- first, next and a series
 
@@ -53,15 +57,15 @@ pub record SameRound (r r′ : Request) (sequence : List Stop) : Type 0 where
 told
     : {A : Type 0} (answer : Round → List Route → A)
     → ((x y : Round) → answer x [] ≡ answer y [])
-    → (r r′ : Request) (sequence : List Stop)
-    → SameRound r r′ sequence
-    → answer (roundOf r sequence) (shortestPaths (searchOf r sequence)) ≡ answer (roundOf r′ sequence) (shortestPaths (searchOf r′ sequence))
-told answer none r r′ sequence same =
+    → (r r′ : Request) (sequence sequence′ : List Stop)
+    → SameRound r r′ sequence sequence′
+    → answer (roundOf r sequence) (shortestPaths (searchOf r sequence)) ≡ answer (roundOf r′ sequence′) (shortestPaths (searchOf r′ sequence′))
+told answer none r r′ sequence sequence′ same =
     let listing = same .found .shortest in
     ⊎-elim
-    (λ (e : roundOf r sequence ≡ roundOf r′ sequence). λ i. answer (e i) (listing i))
+    (λ (e : roundOf r sequence ≡ roundOf r′ sequence′). λ i. answer (e i) (listing i))
     (λ (z : shortestPaths (searchOf r sequence) ≡ []).
-    ap (answer (roundOf r sequence)) z ∙ none (roundOf r sequence) (roundOf r′ sequence) ∙ ap (answer (roundOf r′ sequence)) (sym z ∙ listing))
+    ap (answer (roundOf r sequence)) z ∙ none (roundOf r sequence) (roundOf r′ sequence′) ∙ ap (answer (roundOf r′ sequence′)) (sym z ∙ listing))
     (same .round)
 
 no-path : (v : Verdict) (x y : Round) (n : ℕ) → answerPath v x n [] ≡ answerPath v y n []
@@ -127,34 +131,47 @@ tree-whole room x y S T f e =
 
 -- ---- the laws
 
-module _ (r r′ : Request) (sequence : List Stop) (accepted : Accepted r sequence) (accepted′ : Accepted r′ sequence) (rounds : SameRound r r′ sequence) where
-  abbrev roomy : ℕ → Verdict
-  roomy room = roomVerdict (pathLength sequence) room
+module _
+    (r r′ : Request) (sequence sequence′ : List Stop) (accepted : Accepted r sequence) (accepted′ : Accepted r′ sequence′)
+    (rounds : SameRound r r′ sequence sequence′) where
+  -- the room that a path needs is the same
+  abbrev fitting : List ℕ → ℕ → ℕ → Verdict
+  fitting given room n = refuseIf (not (eqb (length given) n)) 33 0 andThen roomVerdict n room
 
-  abbrev fitting : List ℕ → ℕ → Verdict
-  fitting given room = refuseIf (not (eqb (length given) (pathLength sequence))) 33 0 andThen roomy room
+  needed : pathLength sequence ≡ pathLength sequence′
+  needed = ap suc (rounds .long)
+
+  -- the round and the shortest paths of the second
+  abbrev round′ : Round
+  round′ = roundOf r′ sequence′
+
+  abbrev found′ : List Route
+  found′ = shortestPaths (searchOf r′ sequence′)
 
   same-first : (room : ℕ) → first r room ≡ first r′ room
   same-first room =
+      let roomy = roomVerdict (pathLength sequence) room in
       first-accepted r sequence accepted room
-      ∙ told (λ (x : Round) (ps : List Route). answerPath (roomy room) x 1 ps) (λ x y. no-path (roomy room) x y 1) r r′ sequence rounds
-      ∙ sym (first-accepted r′ sequence accepted′ room)
+      ∙ told (λ (x : Round) (ps : List Route). answerPath roomy x 1 ps) (λ x y. no-path roomy x y 1) r r′ sequence sequence′ rounds
+      ∙ ap (λ (n : ℕ). answerPath (roomVerdict n room) round′ 1 found′) needed
+      ∙ sym (first-accepted r′ sequence′ accepted′ room)
 
   same-next : (given : List ℕ) (room : ℕ) → next r given room ≡ next r′ given room
   unfolding next
   same-next given room =
+      let fit = fitting given room (pathLength sequence) in
       ap (λ (z : Reading (List Stop)). nextInto r z given room) accepted
-      ∙ told
-      (λ (x : Round) (ps : List Route). answerPath (fitting given room) x 2 (greaterThan given ps))
-      (λ x y. none-greater (fitting given room) x y given)
-      r r′ sequence rounds
+      ∙ told (λ (x : Round) (ps : List Route). answerPath fit x 2 (greaterThan given ps)) (λ x y. none-greater fit x y given) r r′ sequence sequence′ rounds
+      ∙ ap (λ (n : ℕ). answerPath (fitting given room n) round′ 2 (greaterThan given found′)) needed
       ∙ sym (ap (λ (z : Reading (List Stop)). nextInto r′ z given room) accepted′)
 
   same-replies : (calls : List Call) → replies r calls ≡ replies r′ calls
   unfolding replies
   same-replies calls =
       ap (λ (z : Reading (List Stop)). repliesBy r z calls) accepted
-      ∙ told (λ (x : Round) (ps : List Route). book x ps (pathLength sequence) 0 calls) (λ x y. book-none x y (pathLength sequence) calls) r r′ sequence rounds
+      ∙ told (λ (x : Round) (ps : List Route). book x ps (pathLength sequence) 0 calls) (λ x y. book-none x y (pathLength sequence) calls) r r′ sequence sequence′
+      rounds
+      ∙ ap (λ (n : ℕ). book round′ found′ n 0 calls) needed
       ∙ sym (ap (λ (z : Reading (List Stop)). repliesBy r′ z calls) accepted′)
 
   pub same-answers : SameAnswers r r′
@@ -164,10 +181,10 @@ module _ (r r′ : Request) (sequence : List Stop) (accepted : Accepted r sequen
   unfolding buildTree
   same-entries room =
       rw (accepted, accepted′)
-      (tree-entries room (roundOf r sequence) (roundOf r′ sequence) (searchOf r sequence) (searchOf r′ sequence) (rounds .found))
+      (tree-entries room (roundOf r sequence) round′ (searchOf r sequence) (searchOf r′ sequence′) (rounds .found))
 
-  pub same-tree : roundOf r sequence ≡ roundOf r′ sequence → (room : ℕ) → buildTree r room ≡ buildTree r′ room
+  pub same-tree : roundOf r sequence ≡ round′ → (room : ℕ) → buildTree r room ≡ buildTree r′ room
   unfolding buildTree
   same-tree e room =
       rw (accepted, accepted′)
-      (tree-whole room (roundOf r sequence) (roundOf r′ sequence) (searchOf r sequence) (searchOf r′ sequence) (rounds .found) e)
+      (tree-whole room (roundOf r sequence) round′ (searchOf r sequence) (searchOf r′ sequence′) (rounds .found) e)

@@ -1,38 +1,22 @@
 -- A list that is put together from subobjects is read as those subobjects: each has right form up to its own end and names the same wherever it stands. Shown once for
 -- every type and both list kinds, over a subobject's length; by the laws of things in a row.
 use Prim.Native.Nat.{ℕ, _+_, _-_, _≤_, _<_}
-use native.Mathlib.Nat.{add-zero, add-assoc}
+use native.Mathlib.Nat.{add-zero, zero-add}
 use native.Mathlib.Omega.{arith}
-use mathlib.Core.Path.{_≡_, refl, sym, ap, ap₂, _∙_}
-use mathlib.Core.Bool.{true, false, not, _&&_, _||_}
+use mathlib.Core.Path.{_≡_, refl, sym, ap, ap₂, subst, _∙_}
+use mathlib.Core.Bool.{false}
 use mathlib.Core.List.{List, [], _∷_, _++_, map}
-use lib.ListN.{length, getD, take}
-use lib.Seq.{getD-append-add, drop-append-add}
-use lib.Dec.{eqb, leb, ltb}
-use borrow.Author.Tests.{le-ltb}
+use lib.ListN.{length, getD, take, length-append}
+use lib.Seq.{getD-append-add, drop-append-add, drop-append-seam}
+use lib.Dec.{leb}
 use Rattle.model.specs.declared.Verdict.the-variants.{Pass}
 use Rattle.model.specs.declared.ListKind.{ListKind}
-use Rattle.model.specs.declared.ListKind.the-variants.{Include, Exclude}
 use Rattle.model.specs.Lists.{each}
 use Rattle.model.specs.Bytes.{part}
-use Rattle.model.specs.Subobject.{Named, Subobject, known, lengthFits, topAt, typeAt, lengthAt, areaLengthAt, topWrong, prefixWrong, paddingWrong, subobjectVerdict, namedAt, subobjectAt, afterSubobject, formVerdict, subobjects}
+use Rattle.model.specs.Subobject.{Named, Subobject, topAt, lengthAt, areaLengthAt, subobjectVerdict, namedAt, subobjectAt, afterSubobject, formVerdict, subobjects}
 use Rattle.laws.proofs.Numbers.{number-shift}
+use Rattle.laws.proofs.Forms.{Alike, later-end, whole-alike}
 use Rattle.laws.proofs.InARow.{Stands, stands-inside, stands-getD, stands-first, Each, Row, offsets, in-a-row, checked-row, places-row}
-
--- what the form check looks at, one fact for each of its tests, in its order
-pub record RightForm (k : ListKind) (s : List ℕ) (end at : ℕ) : Type 0 where
-  pub header : at + 4 ≤ end
-  pub supported : known k (typeAt s at) ≡ true
-  pub topRight : topWrong k (topAt s at) ≡ false
-  pub areaInRange : (eqb (typeAt s at) 7 && not (leb 1 (areaLengthAt s at) && leb (areaLengthAt s at) 13)) ≡ false
-  pub sizeFits : lengthFits k (typeAt s at) (areaLengthAt s at) (lengthAt s at) ≡ true
-  pub whole : at + lengthAt s at ≤ end
-  pub bodyRight : ((eqb (typeAt s at) 1 && prefixWrong k s at) || (eqb (typeAt s at) 7 && paddingWrong s at)) ≡ false
-
-pub right-pass : {k : ListKind} {s : List ℕ} {end at : ℕ} → RightForm k s end at → subobjectVerdict k s end at ≡ Pass
-unfolding subobjectVerdict
-right-pass {k} {s} {end} {at} r =
-    rw (le-ltb end (at + 4) (r .header), r .supported, r .topRight, r .areaInRange, r .sizeFits, le-ltb end (at + lengthAt s at) (r .whole), r .bodyRight)
 
 -- ---- the same wherever it stands
 
@@ -43,46 +27,38 @@ module _ (pre s : List ℕ) where
   part-shift : (i n : ℕ) → part (pre ++ s) (length pre + i) n ≡ part s i n
   part-shift i n = ap (take n) (drop-append-add pre s i)
 
+  bytes-shift : (n : ℕ) → part (pre ++ s) (length pre) n ≡ take n s
+  bytes-shift n = ap (take n) (drop-append-seam pre s)
+
   length-shift : lengthAt (pre ++ s) (length pre) ≡ lengthAt s 0
   length-shift = getD-append-add pre s 1 0
 
   area-shift : areaLengthAt (pre ++ s) (length pre) ≡ areaLengthAt s 0
   area-shift = getD-append-add pre s 2 0
 
-  prefix-shift : (k : ListKind) → prefixWrong k (pre ++ s) (length pre) ≡ prefixWrong k s 0
-  prefix-shift Include = ap (λ (x : ℕ). not (eqb x 32)) (getD-append-add pre s 6 0)
-  prefix-shift Exclude = ap₂ (λ (x y : ℕ). ltb 32 x || not (eqb y 1)) (getD-append-add pre s 6 0) (getD-append-add pre s 7 0)
-
-  padding-shift : paddingWrong (pre ++ s) (length pre) ≡ paddingWrong s 0
-  padding-shift =
-      rw (length-shift, area-shift, add-assoc (length pre) 4 (areaLengthAt s 0), part-shift (4 + areaLengthAt s 0) (lengthAt s 0 - (4 + areaLengthAt s 0)))
-
-  -- and up to any later end
-  right-shift : {k : ListKind} {end later : ℕ} → length pre + end ≤ later → RightForm k s end 0 → RightForm k (pre ++ s) later (length pre)
-  right-shift {k} h r =
-      record {
-        header = omega (arith, r .header);
-        supported = rw first-shift (r .supported);
-        topRight = rw first-shift (r .topRight);
-        areaInRange = rw (first-shift, area-shift) (r .areaInRange);
-        sizeFits = rw (first-shift, area-shift, length-shift) (r .sizeFits);
-        whole = rw length-shift (omega (arith, r .whole));
-        bodyRight = rw (first-shift, prefix-shift k, padding-shift) (r .bodyRight);
-      }
-
   pub named-shift : namedAt (pre ++ s) (length pre) ≡ namedAt s 0
   unfolding namedAt
   named-shift =
-      rw (first-shift, area-shift, number-shift 4 pre s 2, getD-append-add pre s 6 0, number-shift 4 pre s 4, part-shift 4 4, part-shift 4 (areaLengthAt s 0), number-shift 2 pre s 2)
+      rw (first-shift, area-shift, number-shift 4 pre s 2, getD-append-add pre s 6 0, number-shift 4 pre s 4, part-shift 4 4, part-shift 4 (areaLengthAt s 0), length-shift, bytes-shift (lengthAt s 0), number-shift 2 pre s 2)
 
 -- bytes that are of right form up to their own end, whatever follows them, are so wherever they stand
+pub stands-alike : (s : List ℕ) (at : ℕ) (x : List ℕ) (h : Stands s at x) → Alike (x ++ h .after) s 0 at (length x)
+stands-alike s at x h =
+    record {
+      in-first = omega (arith, length-append x (h .after));
+      in-second = stands-inside s at x h;
+      same = λ i l. ap (λ (j : ℕ). getD (x ++ h .after) j 0) (zero-add i) ∙ sym (stands-getD s at x h i);
+    }
+
 pub right-standing
-    : {k : ListKind} {s x : List ℕ} {end at : ℕ} (h : Stands s at x) → at + length x ≤ end
-    → ((post : List ℕ) → RightForm k (x ++ post) (length x) 0)
+    : (k : ListKind) (s x : List ℕ) (end at : ℕ) (h : Stands s at x) → at + length x ≤ end
+    → ((post : List ℕ) → subobjectVerdict k (x ++ post) (length x) 0 ≡ Pass)
     → subobjectVerdict k s end at ≡ Pass
-right-standing {k} {s} {x} {end} {at} h inside right =
-    ap₂ (λ (l : List ℕ) (n : ℕ). subobjectVerdict k l end n) (h .whole) (h .offset)
-    ∙ right-pass (right-shift (h .before) (x ++ h .after) (omega (arith, h .offset)) (right (h .after)))
+right-standing k s x end at h inside right =
+    later-end k s (at + length x) end at inside
+    (subst (λ (n : ℕ). subobjectVerdict k s (at + length x) n ≡ Pass) (add-zero at)
+    (whole-alike (stands-alike s at x h) k (length x) 0 (omega arith)
+    (ap₂ (subobjectVerdict k (x ++ h .after)) (zero-add (length x)) (zero-add 0) ∙ right (h .after))))
 
 -- ---- one subobject after the other
 
@@ -93,7 +69,7 @@ pub record Item : Type 0 where
 
 -- in a list of this kind the bytes are a whole subobject of right form with the top bit clear that names this, whatever follows them
 pub record Encoded (k : ListKind) (x : Item) : Type 0 where
-  pub right : (post : List ℕ) → RightForm k (x .bytes ++ post) (length (x .bytes)) 0
+  pub right : (post : List ℕ) → subobjectVerdict k (x .bytes ++ post) (length (x .bytes)) 0 ≡ Pass
   pub clear : (post : List ℕ) → topAt (x .bytes ++ post) 0 ≡ false
   pub size : (post : List ℕ) → lengthAt (x .bytes ++ post) 0 ≡ length (x .bytes)
   pub long : 4 ≤ length (x .bytes)
@@ -118,7 +94,7 @@ module _ (k : ListKind) (s : List ℕ) where
   -- an item where its bytes stand: its form passes, the next one starts behind its bytes, and the subobject there is what it says
   module _ (at : ℕ) (x : Item) (h : Stands s at (x .bytes)) (r : Encoded k x) where
     passing : subobjectVerdict k s (length s) at ≡ Pass
-    passing = right-standing h (stands-inside s at (x .bytes) h) (r .right)
+    passing = right-standing k s (x .bytes) (length s) at h (stands-inside s at (x .bytes) h) (r .right)
 
     onward : afterSubobject s at ≡ at + length (x .bytes)
     onward = ap (λ (n : ℕ). at + n) (stands-getD s at (x .bytes) h 1 ∙ r .size (h .after))

@@ -1,21 +1,22 @@
 -- A walk along subobjects, as a loop meets it: a right subobject has at least 4 bytes and lies before the end, so the form and the subobjects of what is left from
 -- an offset on are those of the subobject there and of what is left after it. From the laws of a walk along things, up to any end.
-use Prim.Native.Nat.{ℕ, _+_, _-_, _≤_, _<_}
+use Prim.Native.Nat.{ℕ, zero, suc, _+_, _-_, _≤_, _<_}
 use native.Mathlib.Omega.{arith}
-use mathlib.Core.Path.{_≡_, refl, ap, _∙_}
-use mathlib.Core.Bool.{Bool, true, false, not, cond, _&&_, _||_}
-use mathlib.Core.List.{List, [], _∷_, map}
+use mathlib.Core.Path.{_≡_, refl, sym, ap, subst, _∙_}
+use mathlib.Core.Logic.{⊎-elim}
+use mathlib.Core.Bool.{Bool, true, false, cond, _&&_, _||_}
+use mathlib.Core.List.{List, [], _∷_, _++_, map}
 use lib.Dec.{eqb, leb, ltb}
-use borrow.Author.Tests.{ltb-false, leb-true, eqb-true, not-false}
+use borrow.Author.Tests.{ltb-true, ltb-false, leb-true, eqb-true}
 use Rattle.model.specs.declared.ListKind.{ListKind}
 use Rattle.model.specs.declared.Refusal.{Refusal}
 use Rattle.model.specs.declared.Verdict.the-variants.{Pass, Refuse}
 use Rattle.model.specs.Lists.{all, any}
-use Rattle.model.specs.Subobject.{LengthRule, lengthRules, isRule, ruled, keepsRule, known, lengthFits, topAt, typeAt, lengthAt, areaLengthAt, topWrong, prefixWrong, paddingWrong, subobjectVerdict, Subobject, subobjectAt, afterSubobject, formFrom, formVerdict, subobjectsFrom, subobjects}
+use Rattle.model.specs.Subobject.{LengthRule, lengthRules, isRule, ruled, keepsRule, lengthFits, typeAt, lengthAt, areaLengthAt, plainVerdict, subobjectVerdict, Subobject, subobjectAt, afterSubobject, formFrom, formVerdict, subobjectsFrom, subobjects}
 use Rattle.laws.specs.Left.{formLeft, subobjectsLeft}
-use Rattle.laws.proofs.Tests.{and-both}
+use Rattle.laws.proofs.Tests.{and-both, decide}
 use Rattle.laws.proofs.Lists.{all-mem, any-mem}
-use Rattle.laws.proofs.Turns.{andThen-refuseIf, refuseIf-pass}
+use Rattle.laws.proofs.Forms.{pass-right, plain-of, later-end, nearer-end}
 use Rattle.laws.proofs.Along as Along
 
 -- ---- a right subobject
@@ -46,24 +47,18 @@ pub record Right (k : ListKind) (s : List ℕ) (end at : ℕ) : Type 0 where
   pub long : 4 ≤ lengthAt s at
 
 module _ (k : ListKind) (s : List ℕ) (end : ℕ) where
-  pub right-subobject : (at : ℕ) → subobjectVerdict k s end at ≡ Pass → Right k s end at
-  unfolding subobjectVerdict
-  right-subobject at e =
-      let t = typeAt s at in
-      let a = areaLengthAt s at in
-      let six = andThen-refuseIf _ ((eqb t 1 && prefixWrong k s at) || (eqb t 7 && paddingWrong s at)) 26 at .0 e in
-      let five = andThen-refuseIf _ (ltb end (at + lengthAt s at)) 23 at .0 (six .0) in
-      let four = andThen-refuseIf _ (not (lengthFits k t a (lengthAt s at))) 25 at .0 (five .0) in
-      let three = andThen-refuseIf _ (eqb t 7 && not (leb 1 a && leb a 13)) 26 at .0 (four .0) in
-      let two = andThen-refuseIf _ (topWrong k (topAt s at)) 27 at .0 (three .0) in
-      let one = andThen-refuseIf _ (not (known k t)) 24 at .0 (two .0) in
-      let fits = not-false (lengthFits k t a (lengthAt s at)) (four .1) in
+  pub right-plain : (at : ℕ) → plainVerdict k s end at ≡ Pass → Right k s end at
+  right-plain at e =
+      let r = pass-right e in
       record {
-        head = ltb-false end (at + 4) (refuseIf-pass (ltb end (at + 4)) 23 at .0 (one .0));
-        whole = ltb-false end (at + lengthAt s at) (five .1);
-        fits = fits;
-        long = length-least k t a (lengthAt s at) fits;
+        head = r .header;
+        whole = r .whole;
+        fits = r .sizeFits;
+        long = length-least k (typeAt s at) (areaLengthAt s at) (lengthAt s at) (r .sizeFits);
       }
+
+  pub right-subobject : (at : ℕ) → subobjectVerdict k s end at ≡ Pass → Right k s end at
+  right-subobject at e = right-plain at (plain-of k s end at e)
 
   pub further : (at : ℕ) → subobjectVerdict k s end at ≡ Pass → at < afterSubobject s at
   further at e = omega (arith, (right-subobject at e) .long)
@@ -91,8 +86,54 @@ module _ (k : ListKind) (s : List ℕ) (end : ℕ) where
       pub subobjects-next : subobjectsFrom s end at ≡ subobjectAt s at ∷ subobjectsFrom s end (afterSubobject s at)
       subobjects-next = ap (map (subobjectAt s)) (Along.places-next (afterSubobject s) end (subobjectVerdict k s end) further at h e)
 
+-- up to its own end
+pub own-end : (k : ListKind) (s : List ℕ) (end at : ℕ) → subobjectVerdict k s end at ≡ Pass → subobjectVerdict k s (afterSubobject s at) at ≡ Pass
+own-end k s end at e = nearer-end k s end (afterSubobject s at) at (omega (arith, (right-subobject k s end at e) .long)) (omega arith) e
+
 pub subobjects-end : (s : List ℕ) (end at : ℕ) → end ≤ at → subobjectsFrom s end at ≡ []
 subobjects-end s end at h = ap (map (subobjectAt s)) (Along.no-places (afterSubobject s) end (end - at) at h)
+
+-- subobjects of right form up to an offset, and from there on up to another
+module _ (k : ListKind) (s : List ℕ) (mid end : ℕ) (order : mid ≤ end) (behind : formFrom k s end mid ≡ Pass) where
+  abbrev Whole : ℕ → Type 0
+  Whole from = (formFrom k s end from ≡ Pass) × (subobjectsFrom s end from ≡ subobjectsFrom s mid from ++ subobjectsFrom s end mid)
+
+  whole-here : Whole mid
+  whole-here = (behind, ap {B = List Subobject} (λ (l : List Subobject). l ++ subobjectsFrom s end mid) (sym (subobjects-end s mid mid (omega arith))))
+
+  whole-from : (fuel from : ℕ) → mid ≤ from + fuel → from ≤ mid → formFrom k s mid from ≡ Pass → Whole from
+  whole-from zero from high low right = let same : mid ≡ from = omega arith in subst Whole same whole-here
+  whole-from (suc fuel) from high low right =
+      ⊎-elim
+      (λ (t : ltb from mid ≡ true).
+      let l = ltb-true from mid t in
+      let first = right-here k s mid from l right in
+      let r = right-subobject k s mid from first in
+      let whole = r .whole in
+      let long = r .long in
+      let later = whole-from fuel (afterSubobject s from) (omega arith) whole (right-next k s mid from l right) in
+      let l′ : from < end = omega arith in
+      let right′ : formFrom k s end from ≡ Pass = form-next k s end from l′ (later-end k s mid end from order first) ∙ later .0 in (
+        right′,
+        subobjects-next k s end from l′ right′
+            ∙ ap {B = List Subobject} (λ (l : List Subobject). subobjectAt s from ∷ l) (later .1)
+            ∙ ap {B = List Subobject} (λ (l : List Subobject). l ++ subobjectsFrom s end mid) (sym (subobjects-next k s mid from l right)),
+      ))
+      (λ (f : ltb from mid ≡ false). let same : mid ≡ from = omega (arith, ltb-false from mid f) in subst Whole same whole-here)
+      (decide (ltb from mid))
+
+  pub forms-join : (from : ℕ) → from ≤ mid → formFrom k s mid from ≡ Pass → Whole from
+  forms-join from = whole-from mid from (omega arith)
+
+-- the subobject that stands at an offset, alone
+module _ (k : ListKind) (s : List ℕ) (at : ℕ) (here : subobjectVerdict k s (afterSubobject s at) at ≡ Pass) where
+  pub form-alone : formFrom k s (afterSubobject s at) at ≡ Pass
+  form-alone = form-next k s (afterSubobject s at) at (further k s (afterSubobject s at) at here) here ∙ form-end k s (afterSubobject s at) (afterSubobject s at) (omega arith)
+
+  pub subobject-alone : subobjectsFrom s (afterSubobject s at) at ≡ subobjectAt s at ∷ []
+  subobject-alone =
+      subobjects-next k s (afterSubobject s at) at (further k s (afterSubobject s at) at here) form-alone
+      ∙ ap {B = List Subobject} (λ (l : List Subobject). subobjectAt s at ∷ l) (subobjects-end s (afterSubobject s at) (afterSubobject s at) (omega arith))
 
 -- at the start it is the whole list
 pub form-whole : (k : ListKind) (s : List ℕ) → formLeft k s 0 ≡ formVerdict k s

@@ -5,22 +5,29 @@ use native.Mathlib.Nat.{zero-mul, one-mul}
 use native.Mathlib.Omega.{arith}
 use mathlib.Core.Path.{_≡_, refl, sym, ap, subst, _∙_}
 use mathlib.Core.Logic.{_⊎_, ⊎-elim}
-use mathlib.Core.Bool.{true, false}
+use mathlib.Core.Bool.{Bool, true, false}
 use mathlib.Core.List.{List, [], _∷_, _++_, append-assoc}
 use mathlib.Core.Option.{some}
 use lib.ListN.{length, take, replicate, length-append, length-replicate}
 use lib.Seq.{length-take-le, take-at, drop-at, drop-append-add}
+use lib.Dec.{eqb}
 use borrow.Author.Tests.{eq-eqb, le-leb}
 use Rattle.model.specs.declared.Domain.{Domain}
 use Rattle.model.specs.declared.ListKind.the-variants.{Include}
+use Rattle.model.specs.declared.Verdict.the-variants.{Pass}
 use Rattle.model.specs.Lists.{any, all}
 use Rattle.model.specs.Bytes.{bytesOf, allZero}
-use Rattle.model.specs.Subobject.{Area, prefix, system, area, roundedUp, known, lengthFits, paddingWrong, namedAt}
+use Rattle.model.specs.Subobject.{Area, prefix, system, area, roundedUp, known, lengthFits, paddingWrong, typeAt, carriedIf, subobjectVerdict, namedAt}
 use Rattle.model.specs.Profile.{areaLengthFits}
 use Rattle.model.specs.WrittenList.{writtenPin, writtenSystem, writtenArea}
 use Rattle.laws.proofs.AreaLengths.{fits-cases}
 use Rattle.laws.proofs.Numbers.{number-shift, number-bytesOf}
+use Rattle.laws.proofs.Forms.{RightForm, right-pass, both-pass}
 use Rattle.laws.proofs.Subobjects.{Item, Encoded}
+
+-- a subobject of right form that is no EXRS carries nothing
+plain-right : {s : List ℕ} {end at : ℕ} → eqb (typeAt s at) 33 ≡ false → RightForm Include s end at → subobjectVerdict Include s end at ≡ Pass
+plain-right {s} {end} {at} no-exrs r = both-pass s end at (right-pass r) (ap (λ (b : Bool). carriedIf b s at) no-exrs)
 
 -- type 1 has 8 bytes, whatever stands where type 7 has its area's length
 pin-size : (a : ℕ) → lengthFits Include 1 a 8 ≡ true
@@ -36,8 +43,8 @@ pub pin-encoded : (node : ℕ) → node < 2 ^ 32 → Encoded Include (pinItem no
 unfolding bytesOf namedAt known lengthFits any
 pin-encoded node h =
     record {
-      right = λ post.
-          record {
+      right = λ post. plain-right refl
+          (record {
             header = omega arith;
             supported = refl;
             topRight = refl;
@@ -45,7 +52,7 @@ pin-encoded node h =
             sizeFits = pin-size (node / 256 ^ 3 % 256);
             whole = omega arith;
             bodyRight = refl;
-          };
+          });
       clear = λ post. refl;
       size = λ post. refl;
       long = omega arith;
@@ -62,8 +69,8 @@ pub system-encoded : (n : ℕ) → n < 2 ^ 32 → Encoded Include (systemItem n)
 unfolding bytesOf namedAt known lengthFits any
 system-encoded n h =
     record {
-      right = λ post.
-          record {
+      right = λ post. plain-right refl
+          (record {
             header = omega arith;
             supported = refl;
             topRight = refl;
@@ -71,7 +78,7 @@ system-encoded n h =
             sizeFits = refl;
             whole = omega arith;
             bodyRight = refl;
-          };
+          });
       clear = λ post. refl;
       size = λ post. refl;
       long = omega arith;
@@ -97,8 +104,8 @@ ospf-encoded d k l h =
     let bytes = take (d .length) (d .area) in
     let n : length bytes ≡ 4 = held d (omega arith) ∙ l in
     record {
-      right = λ post.
-          record {
+      right = λ post. plain-right refl
+          (record {
             header = omega arith;
             supported = refl;
             topRight = refl;
@@ -106,7 +113,7 @@ ospf-encoded d k l h =
             sizeFits = refl;
             whole = omega arith;
             bodyRight = refl;
-          };
+          });
       clear = λ post. refl;
       size = λ post. omega arith;
       long = omega arith;
@@ -138,8 +145,8 @@ isis-encoded d k low high h =
     let p : length padding ≡ roundedUp (d .length) - d .length = length-replicate (roundedUp (d .length) - d .length) 0 in
     let b : length (bytes ++ padding) ≡ roundedUp (d .length) = omega (arith, length-append bytes padding) in
     record {
-      right = λ post.
-          record {
+      right = λ post. plain-right refl
+          (record {
             header = omega arith;
             supported = refl;
             topRight = refl;
@@ -147,7 +154,7 @@ isis-encoded d k low high h =
             sizeFits = isis-size (d .length);
             whole = omega arith;
             bodyRight = isis-padding (d .length) (roundedUp (d .length)) bytes post n (omega arith);
-          };
+          });
       clear = λ post. refl;
       size = λ post. omega arith;
       long = omega arith;

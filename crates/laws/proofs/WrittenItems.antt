@@ -1,5 +1,5 @@
 -- The written list as subobjects one after the other: it has right form, its subobjects are the ones written, its elements are bytes, and it has at most
--- 36 bytes for each domain. By recursion along the sequence.
+-- 36 bytes for each domain beside its EXRS. By recursion along the sequence.
 use Prim.Native.Nat.{ℕ, zero, suc, _+_, _-_, _*_, _^_, _≤_, _<_}
 use native.Mathlib.Omega.{arith}
 use mathlib.Core.Path.{_≡_, refl, sym, ap, subst, _∙_}
@@ -17,10 +17,13 @@ use Rattle.model.specs.Bytes.{bytesOf}
 use Rattle.model.specs.Subobject.{roundedUp, formVerdict, subobjects}
 use Rattle.model.specs.Sequence.{Stop, domainOf}
 use Rattle.model.specs.WrittenList.{writtenPin, writtenSystem, writtenArea, systemIf, systemAfter, writtenStop, writtenFrom, written}
+use Rattle.model.specs.Calls.{allExrs}
 use Rattle.laws.proofs.BigEndian.{Bytes}
+use Rattle.laws.proofs.InARow.{Each}
 use Rattle.laws.proofs.AreaLengths.{fits-short}
 use Rattle.laws.proofs.Numbers.{bytes-nil, bytes-cons, bytes-test, bytes-append, bytes-take, bytes-replicate, bytes-bytesOf}
 use Rattle.laws.proofs.Subobjects.{Item, AllEncoded, joined, placed, form-whole, subobjects-whole}
+use Rattle.laws.proofs.Exrs.{exrsItems, items-bytes, Whole}
 use Rattle.laws.proofs.WrittenForm.{pinItem, pin-encoded, systemItem, system-encoded, areaItem, area-encoded, held}
 use Rattle.laws.proofs.SoundDomains.{SoundDomain, SoundDomains}
 
@@ -51,7 +54,7 @@ abbrev pub itemsFrom : List Domain → Option ℕ → List Stop → List Item
 itemsFrom ds before [] = []
 itemsFrom ds before (p ∷ rest) =
     let d = domainOf ds (p .domain) in
-    pinItems (p .pin) ++ (domainItems (repeated before (d .asn)) d ++ itemsFrom ds (some (d .asn)) rest)
+    pinItems (p .pin) ++ (exrsItems (subobjects (p .exrs)) ++ (domainItems (repeated before (d .asn)) d ++ itemsFrom ds (some (d .asn)) rest))
 
 -- ---- they are the written list
 
@@ -79,12 +82,17 @@ unfolding each
 area-joined zero d = refl
 area-joined (suc k) d = append-nil (writtenArea (suc k) d)
 
-pub items-joined : (ds : List Domain) (before : Option ℕ) (ps : List Stop) → joined (itemsFrom ds before ps) ≡ writtenFrom ds before ps
+-- where the EXRS of each stop are whole
+abbrev pub AllWhole : List Stop → Type 0
+AllWhole ps = Each (λ (p : Stop). Whole (p .exrs)) ps
+
+pub items-joined : (ds : List Domain) (before : Option ℕ) (ps : List Stop) → AllWhole ps → joined (itemsFrom ds before ps) ≡ writtenFrom ds before ps
 unfolding writtenFrom each
-items-joined ds before [] = refl
-items-joined ds before (p ∷ rest) =
+items-joined ds before [] h = refl
+items-joined ds before (p ∷ rest) h =
     let d = domainOf ds (p .domain) in
-    simp (joined-append, append-assoc, pin-joined, system-joined, area-joined, items-joined ds (some (d .asn)) rest)
+    let whole : joined (exrsItems (subobjects (p .exrs))) ≡ p .exrs = items-bytes (subobjects (p .exrs)) ∙ h .0 .those in
+    simp (joined-append, append-assoc, pin-joined, whole, system-joined, area-joined, items-joined ds (some (d .asn)) rest (h .1))
 
 -- ---- each has right form
 
@@ -93,10 +101,14 @@ abbrev pub PinFits : Option ℕ → Type 0
 PinFits none = Unit {0}
 PinFits (some node) = node < 2 ^ 32
 
--- the stops of a sequence that can be written: domains of the profile, and nodes
+-- the stops of a sequence that can be written: domains of the profile, nodes, and bytes that are whole EXRS
 abbrev pub Writable : List Domain → List Stop → Type 0
 Writable ds [] = Unit {0}
-Writable ds (p ∷ rest) = (p .domain < length ds) × PinFits (p .pin) × Writable ds rest
+Writable ds (p ∷ rest) = (p .domain < length ds) × PinFits (p .pin) × (Whole (p .exrs) × Bytes (p .exrs)) × Writable ds rest
+
+all-whole : (ds : List Domain) (ps : List Stop) → Writable ds ps → AllWhole ps
+all-whole ds [] h = tt
+all-whole ds (p ∷ rest) h = (h .2 .0, all-whole ds rest (h .3))
 
 encoded-append : (k : ListKind) (xs ys : List Item) → AllEncoded k xs → AllEncoded k ys → AllEncoded k (xs ++ ys)
 encoded-append k [] ys a b = b
@@ -121,17 +133,18 @@ module _ (ds : List Domain) (sound : SoundDomains ds) where
       let d = domainOf ds (p .domain) in
       let s = sound .sound (p .domain) (h .0) in
       encoded-append Include (pinItems (p .pin)) _ (pin-all (p .pin) (h .1))
+      (encoded-append Include (exrsItems (subobjects (p .exrs))) _ (h .2 .0 .encoded)
       (encoded-append Include (domainItems (repeated before (d .asn)) d) _
       (encoded-append Include (systemItems (repeated before (d .asn)) (d .asn)) _ (system-all (repeated before (d .asn)) (d .asn) (s .asnFits)) (area-all (d .kind) d refl s))
-      (items-encoded (some (d .asn)) rest (h .2)))
+      (items-encoded (some (d .asn)) rest (h .3))))
 
   pub written-form : (ps : List Stop) → Writable ds ps → formVerdict Include (written ds ps) ≡ Pass
   unfolding written
-  written-form ps h = rw (← items-joined ds none ps) (form-whole Include (itemsFrom ds none ps) (items-encoded none ps h))
+  written-form ps h = rw (← items-joined ds none ps (all-whole ds ps h)) (form-whole Include (itemsFrom ds none ps) (items-encoded none ps h))
 
   pub written-subobjects : (ps : List Stop) → Writable ds ps → subobjects (written ds ps) ≡ placed 0 (itemsFrom ds none ps)
   unfolding written
-  written-subobjects ps h = ap subobjects (sym (items-joined ds none ps)) ∙ subobjects-whole Include (itemsFrom ds none ps) (items-encoded none ps h)
+  written-subobjects ps h = ap subobjects (sym (items-joined ds none ps (all-whole ds ps h))) ∙ subobjects-whole Include (itemsFrom ds none ps) (items-encoded none ps h)
 
 -- ---- bytes, and how many
 
@@ -194,24 +207,26 @@ module _ (ds : List Domain) (sound : SoundDomains ds) where
       let d = domainOf ds (p .domain) in
       let s = sound .sound (p .domain) (h .0) in
       let system = subst Bytes (sym (system-after before (d .asn))) (system-bytes (repeated before (d .asn)) (d .asn)) in
-      bytes-append (writtenStop before (p .pin) d) (writtenFrom ds (some (d .asn)) rest)
-      (bytes-append (writtenPin (p .pin)) (systemAfter before (d .asn) ++ writtenArea (d .kind) d) (pin-bytes (p .pin))
-      (bytes-append (systemAfter before (d .asn)) (writtenArea (d .kind) d) system (area-bytes (d .kind) d s)))
-      (from-bytes (some (d .asn)) rest (h .2))
+      let named : List ℕ = systemAfter before (d .asn) ++ writtenArea (d .kind) d in
+      bytes-append (writtenStop before (p .pin) (p .exrs) d) (writtenFrom ds (some (d .asn)) rest)
+      (bytes-append (writtenPin (p .pin)) (p .exrs ++ named) (pin-bytes (p .pin))
+      (bytes-append (p .exrs) named (h .2 .1) (bytes-append (systemAfter before (d .asn)) (writtenArea (d .kind) d) system (area-bytes (d .kind) d s))))
+      (from-bytes (some (d .asn)) rest (h .3))
 
-  from-length : (before : Option ℕ) (ps : List Stop) → Writable ds ps → length (writtenFrom ds before ps) ≤ 36 * length ps
-  unfolding writtenFrom
+  from-length : (before : Option ℕ) (ps : List Stop) → Writable ds ps → length (writtenFrom ds before ps) ≤ 36 * length ps + length (allExrs ps)
+  unfolding writtenFrom allExrs each
   from-length before [] h = omega arith
   from-length before (p ∷ rest) h =
       let d = domainOf ds (p .domain) in
       let s = sound .sound (p .domain) (h .0) in
+      let named : List ℕ = systemAfter before (d .asn) ++ writtenArea (d .kind) d in
       omega
-      (arith, length-append (writtenStop before (p .pin) d) (writtenFrom ds (some (d .asn)) rest), length-append (writtenPin (p .pin)) (systemAfter before (d .asn) ++ writtenArea (d .kind) d), length-append (systemAfter before (d .asn)) (writtenArea (d .kind) d), pin-length (p .pin), ap length (system-after before (d .asn)), system-length (repeated before (d .asn)) (d .asn), area-length (d .kind) d s, from-length (some (d .asn)) rest (h .2))
+      (arith, length-append (writtenStop before (p .pin) (p .exrs) d) (writtenFrom ds (some (d .asn)) rest), length-append (writtenPin (p .pin)) (p .exrs ++ named), length-append (p .exrs) named, length-append (systemAfter before (d .asn)) (writtenArea (d .kind) d), length-append (p .exrs) (allExrs rest), pin-length (p .pin), ap length (system-after before (d .asn)), system-length (repeated before (d .asn)) (d .asn), area-length (d .kind) d s, from-length (some (d .asn)) rest (h .3))
 
   pub written-bytes : (ps : List Stop) → Writable ds ps → Bytes (written ds ps)
   unfolding written
   written-bytes ps h = from-bytes none ps h
 
-  pub written-length : (ps : List Stop) → Writable ds ps → length (written ds ps) ≤ 36 * length ps
+  pub written-length : (ps : List Stop) → Writable ds ps → length (written ds ps) ≤ 36 * length ps + length (allExrs ps)
   unfolding written
   written-length ps h = from-length none ps h

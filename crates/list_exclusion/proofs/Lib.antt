@@ -1,1 +1,4 @@
+pub mod OnePass
 pub mod Exclusions
+pub mod Soughts
+pub mod Places

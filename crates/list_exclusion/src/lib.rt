@@ -7,7 +7,7 @@ ghost use Rattle.model.specs.declared.Verdict.the-variants.{Pass};
 ghost use Rattle.model.specs.declared.ListKind.the-variants.{Exclude};
 ghost use Rattle.model.specs.Subobject.{formVerdict, subobjects};
 ghost use Rattle.model.specs.Exclusion.{counts as countsIn, inForce, someDesired, inPrefix, takesDomain, takesNode, excludedDomain, excludedNode};
-ghost use Rattle.list_subobject.specs.Items.{namedOf, AreaInside};
+ghost use Rattle.list_subobject.specs.Items.{namedOf, BytesInside};
 use list_subobject::item::Named;
 use list_subobject::walk::moved_past;
 use list_subobject::walk::subobject_at;
@@ -17,6 +17,9 @@ use model::Domain;
 use model::NodeAddress;
 use model::Round;
 use profile_records::area::has_area;
+
+pub mod exrs;
+pub mod place;
 
 // How many of an address's 32 bits stand after a prefix of this length.
 fn bits_after(bits: u8) -> u32
@@ -51,12 +54,13 @@ fn takes_node(named: Named, node: NodeAddress) -> bool
             start: _,
             count: _,
         } => false,
+        Named::Exrs { start: _, count: _ } => false,
     }
 }
 
 // What is named takes the domain away.
 fn takes_domain(list: &[u8], named: Named, d: Domain) -> bool
-    requires { ⌜ (AreaInside (now list) named) × (d .length ≤ 13) ⌝ }
+    requires { ⌜ (BytesInside (now list) named) × (d .length ≤ 13) ⌝ }
     ensures { λ r. ⌜ r ≡ takesDomain d (namedOf (now (list .entry)) named) ⌝ }
 {
     match named {
@@ -66,6 +70,7 @@ fn takes_domain(list: &[u8], named: Named, d: Domain) -> bool
         } => false,
         Named::System { asn } => d.asn == asn,
         Named::Area { kind, start, count } => has_area(d, list, kind, start, count),
+        Named::Exrs { start: _, count: _ } => false,
     }
 }
 
@@ -81,7 +86,7 @@ fn counts(round: Round, top: bool) -> bool
 
 // It counts, and what it names takes the domain away.
 fn bars_domain(list: &[u8], round: Round, top: bool, named: Named, d: Domain) -> bool
-    requires { ⌜ (AreaInside (now list) named) × (d .length ≤ 13) ⌝ }
+    requires { ⌜ (BytesInside (now list) named) × (d .length ≤ 13) ⌝ }
     ensures { λ r. ⌜ r ≡ countsIn round top && takesDomain d (namedOf (now (list .entry)) named) ⌝ }
 {
     if !counts(round, top) {

@@ -12,7 +12,7 @@ use Rattle.model.specs.declared.Verdict.{Verdict}
 use Rattle.model.specs.declared.Verdict.the-variants.{Pass}
 use Rattle.model.specs.Verdict.{refuseIf, _andThen_}
 use Rattle.model.specs.Bytes.{part, allZero}
-use Rattle.model.specs.Subobject.{subobjectVerdict, known, lengthFits, topWrong, prefixWrong, paddingWrong, typeAt, topAt, lengthAt, areaLengthAt}
+use Rattle.model.specs.Subobject.{plainVerdict, known, lengthFits, topWrong, prefixWrong, paddingWrong, typeAt, topAt, lengthAt, areaLengthAt}
 use Rattle.list_subobject.specs.Items.{Readable}
 use Rattle.refusal.specs.Refused.{refusal}
 use Rattle.list_form.specs.Checks.{headWrong, fieldWrong, zeroFrom}
@@ -67,9 +67,9 @@ module _ (k : ListKind) (s : List ℕ) (end at : ℕ) where
   e = lengthFits k (typeAt s at) (areaLengthAt s at) (lengthAt s at)
 
   judged
-      : subobjectVerdict k s end at
+      : plainVerdict k s end at
       ≡ (refuseIf (ltb end (at + 4)) 23 at andThen numbered head at andThen refuseIf (ltb end (at + lengthAt s at)) 23 at andThen refuseIf (fieldWrong k s at) 26 at)
-  unfolding subobjectVerdict headWrong
+  unfolding plainVerdict headWrong
   judged = by-head (ltb end (at + 4)) z w a e (ltb end (at + lengthAt s at)) (fieldWrong k s at) at
 
   -- a right head says that the length is the type's
@@ -78,19 +78,19 @@ module _ (k : ListKind) (s : List ℕ) (end at : ℕ) where
   head-fits q = head-zero z w a e q
 
   -- which refusal it is once the checks before have passed
-  pub short : end < at + 4 → subobjectVerdict k s end at ≡ refusal 23 at
+  pub short : end < at + 4 → plainVerdict k s end at ≡ refusal 23 at
   short h = judged ∙ (rw (lt-ltb end (at + 4) h) refl)
 
   module _ (long : at + 4 ≤ end) where
-    pub bad-head : (head ≡ 0 → ⊥) → subobjectVerdict k s end at ≡ refusal head at
+    pub bad-head : (head ≡ 0 → ⊥) → plainVerdict k s end at ≡ refusal head at
     bad-head d = judged ∙ (rw (le-ltb end (at + 4) long, told head at d) refl)
 
     module _ (fine : head ≡ 0) where
-      pub past-end : end < at + lengthAt s at → subobjectVerdict k s end at ≡ refusal 23 at
+      pub past-end : end < at + lengthAt s at → plainVerdict k s end at ≡ refusal 23 at
       past-end h = judged ∙ (rw (le-ltb end (at + 4) long, fine, lt-ltb end (at + lengthAt s at) h) refl)
 
       -- the last check decides
-      pub by-field : {f : Bool} → f ≡ fieldWrong k s at → at + lengthAt s at ≤ end → subobjectVerdict k s end at ≡ refuseIf f 26 at
+      pub by-field : {f : Bool} → f ≡ fieldWrong k s at → at + lengthAt s at ≤ end → plainVerdict k s end at ≡ refuseIf f 26 at
       by-field e h = judged ∙ (rw (le-ltb end (at + 4) long, fine, le-ltb end (at + lengthAt s at) h, ← e) refl)
 
 -- what a subobject that lies inside the list has for padding

@@ -1,2 +1,3 @@
 mod Zeros
 mod FormChecks
+mod ExrsHeads

@@ -1,11 +1,13 @@
 // The form of a subobject, check by check in document 01's order, and the form of a whole list.
 ghost use mathlib.Core.Path.{_≡_};
-ghost use Prim.Native.Nat.{_+_, _≤_, _<_};
+ghost use mathlib.Core.Logic.{_≢_};
+ghost use Prim.Native.Nat.{ℕ, _+_, _%_, _≤_, _<_};
 ghost use lib.ListN.{length};
 ghost use lib.Dec.{eqb, leb};
 ghost use mathlib.Core.Bool.{not, _&&_};
-ghost use Rattle.model.specs.declared.ListKind.{ListKind};
-ghost use Rattle.model.specs.Subobject.{roundedUp, formVerdict, subobjectVerdict, topWrong, prefixWrong};
+ghost use Rattle.model.specs.declared.ListKind.the-variants.{Include, Exclude};
+ghost use Rattle.model.specs.declared.Verdict.the-variants.{Pass};
+ghost use Rattle.model.specs.Subobject.{roundedUp, typeAt, plainVerdict, carriedIf, subobjectVerdict, formFrom, formVerdict, topWrong, prefixWrong};
 ghost use Rattle.list_subobject.specs.Lengths.{lengthOf};
 ghost use Rattle.list_subobject.specs.Items.{Readable};
 ghost use Rattle.list_form.specs.Checks.{zeroFrom, headWrong, fieldWrong};
@@ -22,10 +24,10 @@ fn rounded_up(n: u8) -> u32
     (n as u32 + 3) / 4 * 4
 }
 
-// A subobject's length by its type and its area's length, in either list, 0 where the type isn't in the table of rules. By tests, since a table in memory
-// would be laid out anew for each subobject.
+// The length of a subobject that both lists know, by its type and its area's length, 0 where the type isn't one of those. By tests, since a table in memory would
+// be laid out anew for each subobject.
 fn length_of(t: u8, area: u8) -> u32
-    ensures { λ r. ⌜ ((k : ListKind) → r ≡ lengthOf k t area) ⌝ }
+    ensures { λ r. ⌜ r ≡ lengthOf Exclude t area ⌝ }
 {
     if t == 1 {
         return 8;
@@ -119,8 +121,28 @@ fn field_wrong(kind: ListKind, list: &[u8], at: usize) -> bool
     false
 }
 
-// What is wrong with a subobject's first three bytes, by the refusal's number in document 01's order, or 0.
-fn head_wrong(kind: ListKind, first: u8, n: u8, area: u8) -> u32
+// What is wrong with the first bytes of an EXRS, which only an include list knows: the type, L, a length under 4.
+fn exrs_head_wrong(kind: ListKind, first: u8, n: u8) -> u32
+    requires { ⌜ first % 128 ≡ 33 ⌝ }
+    ensures { λ r. ⌜ ((area : ℕ) → r ≡ headWrong kind first n area) ⌝ }
+{
+    match kind {
+        ListKind::Exclude => 24,
+        ListKind::Include => {
+            if 128 <= first {
+                return 27;
+            }
+            if n < 4 {
+                return 25;
+            }
+            0
+        }
+    }
+}
+
+// And with those of any other subobject.
+fn plain_head_wrong(kind: ListKind, first: u8, n: u8, area: u8) -> u32
+    requires { ⌜ first % 128 ≢ 33 ⌝ }
     ensures { λ r. ⌜ r ≡ headWrong kind first n area ⌝ }
 {
     let t = first % 128;
@@ -141,12 +163,22 @@ fn head_wrong(kind: ListKind, first: u8, n: u8, area: u8) -> u32
     0
 }
 
-// The form of the subobject at an offset.
-fn form_at(kind: ListKind, list: &[u8], at: usize) -> Verdict
-    requires { ⌜ (at < length (now list)) × (length (now list) ≤ 1024) ⌝ }
-    ensures { λ r. ⌜ r ≡ subobjectVerdict kind (now (list .entry)) (length (now (list .entry))) at ⌝ }
+// What is wrong with a subobject's first three bytes, by the refusal's number in document 01's order, or 0.
+fn head_wrong(kind: ListKind, first: u8, n: u8, area: u8) -> u32
+    ensures { λ r. ⌜ r ≡ headWrong kind first n area ⌝ }
 {
-    let left = list.len() - at;
+    if first % 128 == 33 {
+        return exrs_head_wrong(kind, first, n);
+    }
+    plain_head_wrong(kind, first, n, area)
+}
+
+// The form of the subobject at an offset, but for what an EXRS carries; what holds it ends at `end`.
+fn plain_at(kind: ListKind, list: &[u8], at: usize, end: usize) -> Verdict
+    requires { ⌜ (at < end) × (end ≤ length (now list)) × (length (now list) ≤ 1024) ⌝ }
+    ensures { λ r. ⌜ r ≡ plainVerdict kind (now (list .entry)) end at ⌝ }
+{
+    let left = end - at;
     if left < 4 {
         return refuse_at(23, at);
     }
@@ -162,6 +194,53 @@ fn form_at(kind: ListKind, list: &[u8], at: usize) -> Verdict
         return refuse_at(26, at);
     }
     Verdict::Pass
+}
+
+// The form of what an EXRS carries: subobjects as in an exclude list, from an offset up to its end.
+fn inside_form(list: &[u8], from: usize, end: usize) -> Verdict
+    requires { ⌜ (from ≤ end) × (end ≤ length (now list)) × (length (now list) ≤ 1024) ⌝ }
+    ensures { λ r. ⌜ r ≡ formFrom Exclude (now (list .entry)) end from ⌝ }
+{
+    let mut at = from;
+    while at < end {
+        let verdict = plain_at(ListKind::Exclude, list, at, end);
+        if let Verdict::Refuse(r) = verdict {
+            return Verdict::Refuse(r);
+        }
+        at = next_after(list, at);
+    }
+    Verdict::Pass
+}
+
+// What an EXRS of right head carries: nothing inside is 26.
+fn carried_at(list: &[u8], at: usize) -> Verdict
+    requires { ⌜ (plainVerdict Include (now list) (length (now list)) at ≡ Pass) × (length (now list) ≤ 1024) ⌝ }
+    ensures { λ r. ⌜ r ≡ carriedIf (eqb (typeAt (now (list .entry)) at) 33) (now (list .entry)) at ⌝ }
+{
+    if list[at] % 128 != 33 {
+        return Verdict::Pass;
+    }
+    let end = next_after(list, at);
+    let inside = at + 4;
+    if end == inside {
+        return refuse_at(26, at);
+    }
+    inside_form(list, inside, end)
+}
+
+// The whole form of the subobject at an offset.
+fn form_at(kind: ListKind, list: &[u8], at: usize) -> Verdict
+    requires { ⌜ (at < length (now list)) × (length (now list) ≤ 1024) ⌝ }
+    ensures { λ r. ⌜ r ≡ subobjectVerdict kind (now (list .entry)) (length (now (list .entry))) at ⌝ }
+{
+    let plain = plain_at(kind, list, at, list.len());
+    if let Verdict::Refuse(r) = plain {
+        return Verdict::Refuse(r);
+    }
+    match kind {
+        ListKind::Exclude => Verdict::Pass,
+        ListKind::Include => carried_at(list, at),
+    }
 }
 
 // The first subobject whose form is wrong refuses the list.

@@ -11,8 +11,9 @@ use borrow.Author.Tests.{ne-eqb, eqb-true, eqb-false}
 use Rattle.laws.proofs.Tests.{decide}
 use Rattle.list_subobject.proofs.FormLaws.{named-6, named-7}
 use Rattle.model.specs.Bytes.{number, part}
-use Rattle.model.specs.Lists.{countFrom}
-use Rattle.model.specs.Subobject.{Subobject, prefix, system, area, subobjectAt, afterSubobject, typeAt, lengthAt, areaLengthAt, namedAt}
+use Rattle.model.specs.Lists.{countFrom, each}
+use Rattle.model.specs.Along.{placesAlong}
+use Rattle.model.specs.Subobject.{Subobject, prefix, system, area, stretch, subobjectAt, afterSubobject, typeAt, lengthAt, areaLengthAt, namedAt}
 use Rattle.model.specs.Sequence as M
 use Rattle.model.specs.Request.{readingInput}
 use Rattle.model.specs.declared.Domain.{Domain}
@@ -21,7 +22,9 @@ use Rattle.model.specs.Profile.{domainAt, domainCount, domainStart, domains}
 use Rattle.laws.proofs.Records.{domain-at}
 use Rattle.list_include.specs.declared.state.State.{State}
 use Rattle.list_include.specs.declared.state.Waiting.the-variants.{Nothing}
-use Rattle.laws.specs.Stops.{nodeIn}
+use Rattle.laws.specs.Exrs.{exrsIn, waitingIn, Stretch}
+use Rattle.laws.specs.Stops.{nodeIn, stretchStart}
+use Rattle.laws.proofs.Waiting.{empty-stretch}
 use Rattle.list_include.specs.Reading.{subobjectOf, Clean, SoundState, StateIs}
 use Rattle.laws.specs.Left.{formLeft, subobjectsLeft}
 use Rattle.laws.proofs.Along.{places-first}
@@ -56,11 +59,16 @@ module _ (s : List ℕ) (at : ℕ) (h : at < length s) where
           (cond five (system (number 4 s (at + 4)))
           (cond (eqb (typeAt s at) 6) (area (record { kind = 1; bytes = part s (at + 4) 4 }))
           (cond (eqb (typeAt s at) 7) (area (record { kind = 2; bytes = part s (at + 4) (areaLengthAt s at) }))
-          (system (number 2 s (at + 2)))))))
+          (cond (eqb (typeAt s at) 33) (stretch (part s at (lengthAt s at)))
+          (system (number 2 s (at + 2))))))))
           ≡ false
       go true five = refl
       go false true = refl
-      go false false = rw (ne-eqb (typeAt s at) 6 d6, ne-eqb (typeAt s at) 7 d7) refl
+      go false false = rw (ne-eqb (typeAt s at) 6 d6, ne-eqb (typeAt s at) 7 d7) (last (eqb (typeAt s at) 33))
+        where
+          last : (b : Bool) → M.isArea (cond b (stretch (part s at (lengthAt s at))) (system (number 2 s (at + 2)))) ≡ false
+          last true = refl
+          last false = refl
 
   pub area-or-not : (typeAt s at ≡ 6 → ⊥) → eqb (typeAt s at) 7 ≡ M.areaNext (subobjectsLeft s at)
   area-or-not d6 =
@@ -82,6 +90,9 @@ first asn d =
       domains = set (replicate 16 (record { 0 = 0 })) 0 d;
       pinned = replicate 16 0;
       pins = replicate 16 (record { 0 = 0 });
+      named = replicate 16 0;
+      mark = 0;
+      node = record { 0 = 0 };
       waiting = Nothing;
     }
 
@@ -93,6 +104,7 @@ first-sound asn d =
       domains-long = refl;
       pinned-long = refl;
       pins-long = refl;
+      named-long = refl;
       clean = λ i h. only i h;
     }
   where
@@ -102,14 +114,26 @@ first-sound asn d =
 
 pub started
     : (s : List ℕ) (d : DomainIndex) (x : ℕ) → d .0 < domainCount s → x ≡ number 4 s (domainStart (d .0))
-    → StateIs (first x d) (M.startIn (readingInput s) (d .0))
-unfolding stopsOf countFrom domainAt
-started s d x h e =
+    → (list : List ℕ) → StateIs list 0 (first x d) (M.startIn (readingInput s) (d .0))
+unfolding stopsOf countFrom domainAt exrsIn waitingIn each placesAlong M.exrsOf
+started s d x h e list =
     let asn : x ≡ (M.domainOf (domains s) (d .0)) .asn = e ∙ sym (ap (λ (r : Domain). r .asn) (domain-at s (d .0) M.noDomain h)) in
     record {
       means = λ k. record { asn = asn k; here = d .0; sequence = M.stopWith (d .0) [] ∷ []; waiting = [] };
       sound = first-sound x d;
+      standing =
+          record {
+            placed = λ i l. alone i l;
+            behind = empty-stretch list 0 (omega arith);
+            mark-is = refl;
+            node-is = refl;
+            left-is = refl;
+          };
     }
+  where
+    alone : (i : ℕ) → i < 1 → Stretch list (stretchStart (first x d .named) i) (getD (first x d .named) i 0)
+    alone zero l = empty-stretch list 0 (omega arith)
+    alone (suc i) l = absurd (omega arith)
 
 -- ---- one subobject, and what is left of the reading
 

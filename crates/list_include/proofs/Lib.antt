@@ -1,3 +1,4 @@
 mod Includes
 pub mod Hits
 pub mod States
+mod Steps

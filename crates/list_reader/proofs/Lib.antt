@@ -1,3 +1,4 @@
 pub mod SequenceCopies
+pub mod Stretches
 pub mod ReadChecks
 pub mod ReadOutcomes

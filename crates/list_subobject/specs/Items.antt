@@ -8,20 +8,22 @@ use Rattle.model.specs.declared.ListKind.{ListKind}
 use Rattle.model.specs.Bytes.{part}
 use Rattle.model.specs.Subobject as M
 use Rattle.list_subobject.specs.declared.item.Named.{Named}
-use Rattle.list_subobject.specs.declared.item.Named.the-variants.{Prefix, System, Area}
+use Rattle.list_subobject.specs.declared.item.Named.the-variants.{Prefix, System, Area, Exrs}
 use Rattle.list_subobject.specs.declared.item.Item.{Item}
 
--- what is named; an area's bytes are those of the list
+-- what is named; the bytes of an area or an EXRS are those of the list
 abbrev pub namedOf : List ℕ → Named → M.Named
 namedOf s (Prefix a n) = M.prefix (a .0) n
 namedOf s (System n) = M.system n
 namedOf s (Area k start n) = M.area (record { kind = k; bytes = part s start n })
+namedOf s (Exrs start n) = M.stretch (part s start n)
 
--- an area's bytes stand inside the list
-abbrev pub AreaInside : List ℕ → Named → Type 0
-AreaInside s (Prefix a n) = Unit {0}
-AreaInside s (System n) = Unit {0}
-AreaInside s (Area k start n) = start + n ≤ length s
+-- they stand inside the list
+abbrev pub BytesInside : List ℕ → Named → Type 0
+BytesInside s (Prefix a n) = Unit {0}
+BytesInside s (System n) = Unit {0}
+BytesInside s (Area k start n) = start + n ≤ length s
+BytesInside s (Exrs start n) = start + n ≤ length s
 
 -- what right form, in a list of some kind, says of a subobject's bytes: its length is its type's, and it lies inside the list
 pub record Readable (s : List ℕ) (at : ℕ) : Type 0 where
@@ -30,10 +32,10 @@ pub record Readable (s : List ℕ) (at : ℕ) : Type 0 where
   pub inside : at + M.lengthAt s at ≤ length s
   pub fits : M.lengthFits kind (M.typeAt s at) (M.areaLengthAt s at) (M.lengthAt s at) ≡ true
 
--- what the subobject at an offset names, with an area's bytes inside the list
+-- what the subobject at an offset names, with its bytes inside the list
 pub record NamedIs (s : List ℕ) (at : ℕ) (n : Named) : Type 0 where
   pub named : namedOf s n ≡ M.namedAt s at
-  pub area : AreaInside s n
+  pub there : BytesInside s n
 
 -- the subobject at an offset, in a list of either kind
 pub record ItemAt (s : List ℕ) (at : ℕ) (it : Item) : Type 0 where
@@ -43,4 +45,4 @@ pub record ItemAt (s : List ℕ) (at : ℕ) (it : Item) : Type 0 where
   pub next : it .next ≡ M.afterSubobject s at
   pub further : at + 4 ≤ it .next
   pub inside : it .next ≤ length s
-  pub area : AreaInside s (it .named)
+  pub there : BytesInside s (it .named)

@@ -8,7 +8,7 @@ use wire::u16_at;
 use wire::u32_at;
 use wire::wide;
 
-// What a subobject names. An area's bytes are left where they stand: in the list, from `start` on.
+// What a subobject names. The bytes of an area, and those of a whole EXRS, are left where they stand: in the list, from `start` on.
 pub enum Named {
     Prefix {
         address: NodeAddress,
@@ -19,6 +19,10 @@ pub enum Named {
     },
     Area {
         kind: u8,
+        start: usize,
+        count: usize,
+    },
+    Exrs {
         start: usize,
         count: usize,
     },
@@ -63,6 +67,10 @@ fn named_at(list: &[u8], at: usize) -> Named
             start,
             count,
         };
+    }
+    if t == 33 {
+        let count = wide(list[at + 1]);
+        return Named::Exrs { start: at, count };
     }
     let asn = u16_at(list, at + 2) as u32;
     Named::System { asn }

@@ -1,4 +1,5 @@
 pub mod Steps
+pub mod Stretches
 pub mod Outcomes
 pub mod WrittenParts
 mod Scans

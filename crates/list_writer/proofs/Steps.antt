@@ -1,62 +1,54 @@
--- One turn of the loop that writes a list: what is put for a stop, and what is left to write after it. From the laws of sequences by index and of accepted profiles.
-use Prim.Native.Nat.{ℕ, zero, suc, _+_, _*_, _≤_, _<_}
+-- One turn of the loops along a sequence: what is written for the domain at a place, how long it is, and what is left to write after it. From the laws of sequences by
+-- index and of accepted profiles.
+use Prim.Native.Nat.{ℕ, zero, suc, _+_, _-_, _≤_, _<_}
 use native.Mathlib.Numerals.{add-one}
+use native.Mathlib.Nat.{zero-add}
 use native.Mathlib.Omega.{arith}
 use mathlib.Core.Path.{_≡_, refl, sym, ap, ap₂, _∙_}
 use mathlib.Core.Bool.{Bool}
-use mathlib.Core.List.{List, _++_, append-assoc, append-nil}
+use mathlib.Core.List.{List, [], _++_}
 use mathlib.Core.Option.{Option, some}
+use lib.Dec.{leb}
 use lib.ListN.{length, getD, take, drop, length-append, length-drop}
 use lib.Seq.{length-take-le}
+use borrow.Author.Tests.{leb-false}
 use Rattle.model.specs.declared.Domain.{Domain}
+use Rattle.model.specs.Lists.{over}
 use Rattle.model.specs.Profile.{layoutIn, domainCount, domainStart, domainAt, domains}
 use Rattle.model.specs.Sequence.{noDomain, domainOf}
-use Rattle.model.specs.WrittenList.{writtenPin, pinIf, systemIf, systemAfter, writtenArea, writtenStop, writtenFrom, written, stops}
+use Rattle.model.specs.WrittenList.{pinIf, systemIf, systemAfter, writtenPin, writtenArea, writtenStop, writtenFrom}
+use Rattle.laws.proofs.Lists.{any-false}
+use Rattle.laws.proofs.Ascending.{getD-mem}
 use Rattle.laws.proofs.Accepted.{AcceptedProfile, accepted}
 use Rattle.laws.proofs.Records.{length-domains, domain-at}
-use Rattle.laws.proofs.Stops.{written-at, written-end, Accepts, accepts, domain-inside}
-use Rattle.buffers.specs.Placed.{Put}
-use Rattle.list_writer.specs.Writing.{AreaRight}
-use Rattle.list_writer.specs.Writing.{beforeOf, systemAgain, Writable}
-use Rattle.buffers.proofs.Places.{placed-take}
-use Rattle.list_writer.proofs.WrittenParts.{pin-length, system-length, area-length}
-
--- the bytes of a stop, in the code's terms
-abbrev pub stopBytes : ℕ → ℕ → Bool → Domain → List ℕ
-stopBytes mark node again d = writtenPin (pinIf mark node) ++ (systemIf again (d .asn) ++ writtenArea (d .kind) d)
-
-pub stop-length : (mark node : ℕ) (again : Bool) (d : Domain) → AreaRight d → length (stopBytes mark node again d) ≤ 36
-stop-length mark node again d r =
-    let pin = pin-length mark node in
-    let system = system-length again (d .asn) in
-    let area = area-length d r in
-    simp length-append (omega arith)
-
--- the next stop has room, and how far the stops reach after it
-pub stop-room : {at i n size : ℕ} → at ≤ 36 * i → i < n → n ≤ 16 → size ≡ 576 → at + 36 ≤ size
-stop-room a h m e = omega arith
-
-pub stop-reach : {at next size : ℕ} (i : ℕ) → at ≤ 36 * i → next ≡ at + size → size ≤ 36 → next ≤ 36 * (i + 1)
-stop-reach i a e m = omega arith
+use Rattle.laws.proofs.Stops.{bytesBefore, stopsFrom, exrsAt, written-at, written-end}
+use Rattle.laws.proofs.WrittenSizes.{Together, together, exrs-long}
+use Rattle.buffers.specs.Placed.{placed, Put}
+use Rattle.buffers.proofs.Places.{nothing-put, placed-append}
+use Rattle.list_writer.specs.Writing.{AreaRight, beforeOf, systemAgain, stopBytes, namedSize, Fitting}
+use Rattle.list_writer.proofs.Stretches.{lent}
+use Rattle.list_writer.proofs.WrittenParts.{stop-long}
 
 again-system : (i before asn : ℕ) → systemIf (systemAgain i before asn) asn ≡ systemAfter (beforeOf i before) asn
 again-system zero before asn = refl
 again-system (suc i) before asn = refl
 
--- what is left to write from stop i on, where `before` is the AS of the domain before it
-abbrev pub left : List ℕ → List ℕ → List ℕ → List ℕ → ℕ → ℕ → List ℕ
-left profile indexes marks nodes i before = writtenFrom (domains profile) (beforeOf i before) (stops (drop i indexes) (drop i marks) (drop i nodes))
+-- what is left to write from place i on, where `before` is the AS of the domain before it
+abbrev pub left : List ℕ → List ℕ → List ℕ → List ℕ → List ℕ → List ℕ → ℕ → ℕ → List ℕ
+left profile indexes marks nodes counts exrs i before = writtenFrom (domains profile) (beforeOf i before) (stopsFrom (domains profile) indexes marks nodes counts exrs i)
 
-module _ (profile indexes marks nodes : List ℕ) (w : Writable profile indexes marks nodes) where
+module _ {profile indexes marks nodes counts exrs : List ℕ} (w : Fitting profile indexes marks nodes counts exrs) where
   facts : AcceptedProfile (layoutIn profile) profile
   facts = accepted (layoutIn profile) profile (w .accepted)
 
-  pub sequence : Accepts (domains profile) indexes marks nodes
-  sequence = accepts (domains profile) indexes marks nodes (w .writable)
+  pub fit : Together indexes marks nodes counts exrs
+  fit = together indexes marks nodes counts exrs (w .fit)
 
   module _ (i : ℕ) (h : i < length indexes) where
     below-count : getD indexes i 0 < domainCount profile
-    below-count = omega (arith, domain-inside (domains profile) indexes marks nodes sequence i h, length-domains profile)
+    below-count =
+        let inside : getD indexes i 0 < length (domains profile) = leb-false _ _ (any-false (λ (d : ℕ). leb (length (domains profile)) d) (w .in-profile) (getD-mem indexes i 0 h)) in
+        omega (arith, length-domains profile)
 
     -- the domain's record lies in the profile, and its area is right
     pub inside : domainStart (getD indexes i 0) + 20 ≤ length profile
@@ -74,37 +66,64 @@ module _ (profile indexes marks nodes : List ℕ) (w : Writable profile indexes 
     named = domain-at profile (getD indexes i 0) noDomain below-count
 
     module _ (before : ℕ) (again : Bool) (d : Domain) (e : d ≡ domainAt profile (getD indexes i 0)) (f : again ≡ systemAgain i before (d .asn)) where
-      first-left : left profile indexes marks nodes i before
-          ≡ stopBytes (getD marks i 0) (getD nodes i 0) again d ++ left profile indexes marks nodes (suc i) (d .asn)
+      abbrev own : List ℕ
+      own = exrsAt (domains profile) indexes marks nodes counts exrs i
+
+      abbrev rest : List ℕ
+      rest = left profile indexes marks nodes counts exrs (i + 1) (d .asn)
+
+      first-left : left profile indexes marks nodes counts exrs i before ≡ stopBytes (getD marks i 0) (getD nodes i 0) own again d ++ rest
       first-left =
           let pin : Option ℕ = pinIf (getD marks i 0) (getD nodes i 0) in
-          written-at (domains profile) indexes marks nodes i h (sequence .as-many-marks) (sequence .as-many-nodes) (beforeOf i before)
+          rw add-one
+          (written-at (domains profile) indexes marks nodes counts exrs i h (fit .as-many-marks) (fit .as-many-nodes) (fit .as-many-counts) (beforeOf i before)
           ∙ ap
           (λ (x : Domain).
-          writtenStop (beforeOf i before) pin x
-          ++ writtenFrom (domains profile) (some (x .asn)) (stops (drop (suc i) indexes) (drop (suc i) marks) (drop (suc i) nodes)))
+          writtenStop (beforeOf i before) pin own x
+          ++ writtenFrom (domains profile) (some (x .asn)) (stopsFrom (domains profile) indexes marks nodes counts exrs (suc i)))
           (named ∙ sym e)
           ∙ ap
-          (λ (s : List ℕ). writtenPin pin ++ (s ++ writtenArea (d .kind) d) ++ left profile indexes marks nodes (suc i) (d .asn))
-          (sym (ap (λ (b : Bool). systemIf b (d .asn)) f ∙ again-system i before (d .asn)))
+          (λ (s : List ℕ). writtenPin pin ++ (own ++ (s ++ writtenArea (d .kind) d)) ++ left profile indexes marks nodes counts exrs (suc i) (d .asn))
+          (sym (ap (λ (b : Bool). systemIf b (d .asn)) f ∙ again-system i before (d .asn))))
 
-      -- the stop's bytes are put after those before it, and the rest is left
-      pub turn : (at next : ℕ) (out new : List ℕ) → at + 36 ≤ length out
-          → Put at (stopBytes (getD marks i 0) (getD nodes i 0) again d) out new next
-          → take at out ++ left profile indexes marks nodes i before ≡ written (domains profile) (stops indexes marks nodes)
-          → take next new ++ left profile indexes marks nodes (i + 1) (d .asn) ≡ written (domains profile) (stops indexes marks nodes)
-      turn at next out new k p done =
-          let bytes : List ℕ = stopBytes (getD marks i 0) (getD nodes i 0) again d in
-          let rest : List ℕ = left profile indexes marks nodes (suc i) (d .asn) in
-          let so-far : take next new ≡ take at out ++ bytes = ap₂ (λ (n : ℕ) (s : List ℕ). take n s) (p .next) (p .holds) ∙ placed-take out bytes at (omega arith) in
-          rw add-one
-          (ap (λ (s : List ℕ). s ++ rest) so-far
-          ∙ append-assoc (take at out) bytes rest
-          ∙ ap (λ (s : List ℕ). take at out ++ s) (sym first-left)
-          ∙ done)
+      -- how long it is
+      pub left-long : length (left profile indexes marks nodes counts exrs i before)
+          ≡ namedSize (getD marks i 0) (getD nodes i 0) again d + getD counts i 0 + length rest
+      left-long =
+          let c = fit .as-many-counts in
+          omega
+          (arith, ap length first-left, length-append (stopBytes (getD marks i 0) (getD nodes i 0) own again d) rest, stop-long (getD marks i 0) (getD nodes i 0) own again d, exrs-long counts exrs (fit .all-bytes) i (omega arith) (domains profile) indexes marks nodes)
 
-pub nothing-left : (profile indexes marks nodes out : List ℕ) (at i before : ℕ) → length indexes ≤ i
-    → take at out ++ left profile indexes marks nodes i before ≡ written (domains profile) (stops indexes marks nodes)
-    → take at out ≡ written (domains profile) (stops indexes marks nodes)
-nothing-left profile indexes marks nodes out at i before h done =
-    sym (append-nil (take at out)) ∙ ap (λ (s : List ℕ). take at out ++ s) (sym (written-end (domains profile) indexes marks nodes i (beforeOf i before) h)) ∙ done
+      -- the domain's bytes, with the part of the EXRS' bytes that the code lends, have room where all that is left has; where they are put, the rest is left
+      module _ (from to : ℕ) (g : from ≡ bytesBefore counts i) (t : to ≡ from + getD counts i 0) where
+        abbrev bytes : List ℕ
+        bytes = stopBytes (getD marks i 0) (getD nodes i 0) (take (to - from) (drop from exrs)) again d
+
+        lent-left : left profile indexes marks nodes counts exrs i before ≡ bytes ++ rest
+        lent-left = first-left ∙ ap (λ (x : List ℕ). stopBytes (getD marks i 0) (getD nodes i 0) x again d ++ rest) (lent counts exrs i from to g t)
+
+        pub turn-room : (at : ℕ) (out : List ℕ) → at + length (left profile indexes marks nodes counts exrs i before) ≤ length out → at + length bytes ≤ length out
+        turn-room at out k = omega (arith, ap length lent-left, length-append bytes rest)
+
+        pub turn : (at next : ℕ) (out new : List ℕ) → at ≤ length out → Put at bytes out new next
+            → placed next rest new ≡ placed at (left profile indexes marks nodes counts exrs i before) out
+        turn at next out new k p =
+            ap₂ (λ (n : ℕ) (s : List ℕ). placed n rest s) (p .next) (p .holds)
+            ∙ placed-append out bytes at k rest
+            ∙ ap (λ (s : List ℕ). placed at s out) (sym lent-left)
+
+        pub turn-long : (at next : ℕ) (out new : List ℕ) → Put at bytes out new next
+            → next + length rest ≡ at + length (left profile indexes marks nodes counts exrs i before)
+        turn-long at next out new p = omega (arith, p .next, ap length lent-left, length-append bytes rest)
+
+pub nothing-left : (profile indexes marks nodes counts exrs : List ℕ) (i before : ℕ) → length indexes ≤ i → left profile indexes marks nodes counts exrs i before ≡ []
+nothing-left profile indexes marks nodes counts exrs i before h = written-end (domains profile) indexes marks nodes counts exrs i (beforeOf i before) h
+
+-- from the start on: over the start
+pub from-start : (run old : List ℕ) → placed 0 run old ≡ over run old
+unfolding over
+from-start run old = ap (λ (n : ℕ). run ++ drop n old) (zero-add (length run))
+
+-- nothing put changes nothing
+pub none-placed : (run out : List ℕ) (at : ℕ) → run ≡ [] → placed at run out ≡ out
+none-placed run out at e = ap (λ (s : List ℕ). placed at s out) e ∙ sym (nothing-put out at .holds)

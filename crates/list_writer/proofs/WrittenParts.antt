@@ -1,4 +1,4 @@
--- The parts of a written list: how long each can be, and that what the code stores is the part. A part's bytes are those of its stores, one run after the other.
+-- The parts of a written list: how long each is, and that what the code stores is the part. A part's bytes are those of its stores, one run after the other.
 use mathlib.Core.Path.{_≡_, refl, sym, ap, subst, _∙_}
 use mathlib.Core.Logic.{_⊎_, ⊎-elim}
 use mathlib.Core.Bool.{Bool, true, false}
@@ -6,8 +6,8 @@ use mathlib.Core.List.{List, [], _∷_, _++_, append-nil}
 use mathlib.Core.Option.{Option, some}
 use Prim.Native.Nat.{ℕ, zero, suc, _+_, _*_, _-_, _≤_}
 use native.Mathlib.Omega.{arith}
-use lib.ListN.{length, take, drop, replicate, length-append, length-replicate}
-use lib.Seq.{length-take-le}
+use lib.ListN.{length, take, drop, replicate, length-append}
+use lib.Seq.{length-take-le, take-length}
 use Rattle.model.specs.declared.Domain.{Domain}
 use Rattle.model.specs.Bytes.{bytesOf}
 use Rattle.model.specs.Profile.{areaLengthFits}
@@ -15,37 +15,8 @@ use Rattle.model.specs.Subobject.{roundedUp}
 use Rattle.model.specs.WrittenList.{writtenPin, pinIf, systemIf, writtenArea}
 use Rattle.laws.proofs.AreaLengths.{fits-cases, fits-short}
 use Rattle.buffers.specs.Placed.{Put}
-use Rattle.list_writer.specs.Writing.{AreaRight}
+use Rattle.list_writer.specs.Writing.{AreaRight, stopBytes, namedSize}
 use Rattle.buffers.proofs.Places.{take-replicate, nothing-put, put-append, number-put}
-
--- ---- how long a part is
-
-pub pin-length : (mark node : ℕ) → length (writtenPin (pinIf mark node)) ≤ 8
-unfolding bytesOf
-pin-length zero node = omega arith
-pin-length (suc m) node = omega arith
-
-pub system-length : (again : Bool) (asn : ℕ) → length (systemIf again asn) ≤ 8
-unfolding bytesOf
-system-length true asn = omega arith
-system-length false asn = omega arith
-
-isis-length : (n : ℕ) (area : List ℕ) → n ≤ 13 → length area ≡ 13 → 4 + length (take n area ++ replicate (roundedUp n - n) 0) ≤ 20
-isis-length n area h l =
-    let t : length (take n area) ≡ n = length-take-le n area (omega arith) in
-    let z : length {A = ℕ} (replicate (roundedUp n - n) 0) ≡ roundedUp n - n = length-replicate (roundedUp n - n) 0 in
-    let whole : length (take n area ++ replicate (roundedUp n - n) 0) ≡ n + (roundedUp n - n) = length-append (take n area) (replicate (roundedUp n - n) 0) ∙ rw (t, z) refl in
-    omega arith
-
-area-length-of : (k : ℕ) (d : Domain) → d .length ≤ 13 → length (d .area) ≡ 13 → length (writtenArea k d) ≤ 20
-area-length-of zero d h l = omega arith
-area-length-of (suc zero) d h l =
-    let t : length (take (d .length) (d .area)) ≡ d .length = length-take-le (d .length) (d .area) (omega arith) in
-    omega arith
-area-length-of (suc (suc k)) d h l = let padded = isis-length (d .length) (d .area) h l in omega arith
-
-pub area-length : (d : Domain) → AreaRight d → length (writtenArea (d .kind) d) ≤ 20
-area-length d r = area-length-of (d .kind) d (fits-short (d .kind) (d .length) (r .fits)) (r .whole)
 
 -- ---- what the code puts
 
@@ -55,6 +26,13 @@ no-pin mark node at s e = subst (λ (m : ℕ). Put at (writtenPin (pinIf m node)
 pinned : (mark node : ℕ) → (mark ≡ 0 → ⊥) → pinIf mark node ≡ some node
 pinned zero node h = absurd (h refl)
 pinned (suc m) node h = refl
+
+pub no-pin-long : (mark node : ℕ) → mark ≡ 0 → length (writtenPin (pinIf mark node)) ≡ 0
+no-pin-long mark node e = ap (λ (m : ℕ). length (writtenPin (pinIf m node))) e
+
+pub pin-long : (mark node : ℕ) → (mark ≡ 0 → ⊥) → length (writtenPin (pinIf mark node)) ≡ 8
+unfolding bytesOf
+pin-long mark node h = ap (λ (p : Option ℕ). length (writtenPin p)) (pinned mark node h)
 
 pub pin-put : (mark node at : ℕ) (s a b c : List ℕ) → (mark ≡ 0 → ⊥) → at + 8 ≤ length s
     → a ≡ take at s ++ bytesOf 2 0x0108 ++ drop (at + 2) s
@@ -71,6 +49,10 @@ pin-put mark node at s a b c m h e f g =
 
 pub no-system : (again : Bool) (asn at : ℕ) (s : List ℕ) → again ≡ true → Put at (systemIf again asn) s s at
 no-system again asn at s e = subst (λ (b : Bool). Put at (systemIf b asn) s s at) (sym e) (nothing-put s at)
+
+pub system-long : (again : Bool) (asn : ℕ) → again ≡ false → length (systemIf again asn) ≡ 8
+unfolding bytesOf
+system-long again asn e = ap (λ (b : Bool). length (systemIf b asn)) e
 
 pub system-put : (again : Bool) (asn at rest : ℕ) (s a b : List ℕ) → again ≡ false → at ≤ length s
     → Put at (5 ∷ 8 ∷ 0 ∷ 0 ∷ []) s a rest
@@ -128,9 +110,29 @@ module _ (d : Domain) where
       ⊎-elim (λ (b : (k ≡ 1) × (n ≡ 4)). subst Same (sym (b .0)) (ospf-bytes (b .1))) (λ (c : (k ≡ 2) × (1 ≤ n) × (n ≤ 13)). subst Same (sym (c .0)) (isis-bytes (c .2))) u)
       (fits-cases k n f)
 
-  pub area-put : (at m e r : ℕ) (s a b c : List ℕ) → AreaRight d → (d .kind ≡ 0 → ⊥) → at ≤ length s
-      → Put at ((5 + d .kind) ∷ (4 + roundedUp (d .length)) ∷ ((d .kind - 1) * d .length) ∷ 0 ∷ []) s a m
+  pub area-long : AreaRight d → (d .kind ≡ 0 → ⊥) → length (writtenArea (d .kind) d) ≡ 4 + roundedUp (d .length)
+  area-long f z =
+      let n : ℕ = d .length in
+      let short = fits-short (d .kind) (d .length) (f .fits) in
+      let whole = f .whole in
+      let area : length (take n (d .area)) ≡ n = length-take-le n (d .area) (omega arith) in
+      let padding : length {A = ℕ} (take (roundedUp n - n) (replicate 3 0)) ≡ roundedUp n - n = length-take-le (roundedUp n - n) (replicate 3 0) (omega arith) in
+      ap length (sym (area-bytes (d .kind) (f .fits) z)) ∙ omega (arith, length-append ((5 + d .kind) ∷ (4 + roundedUp n) ∷ ((d .kind - 1) * n) ∷ 0 ∷ take n (d .area)) (take (roundedUp n - n) (replicate 3 0)))
+
+  pub area-put : (at m e r padded : ℕ) (s a b c : List ℕ) → AreaRight d → (d .kind ≡ 0 → ⊥) → at ≤ length s → padded ≡ roundedUp (d .length)
+      → Put at ((5 + d .kind) ∷ (4 + padded) ∷ ((d .kind - 1) * d .length) ∷ 0 ∷ []) s a m
       → Put m (take (d .length) (d .area)) a b e
-      → Put e (take (roundedUp (d .length) - d .length) (replicate 3 0)) b c r
+      → Put e (take (padded - d .length) (replicate 3 0)) b c r
       → Put at (writtenArea (d .kind) d) s c r
-  area-put at m e r s a b c f z h p q t = subst (λ (x : List ℕ). Put at x s c r) (area-bytes (d .kind) (f .fits) z) (put-append h (put-append h p q) t)
+  area-put at m e r padded s a b c f z h k p q t =
+      let head = subst (λ (n : ℕ). Put at ((5 + d .kind) ∷ (4 + n) ∷ ((d .kind - 1) * d .length) ∷ 0 ∷ []) s a m) k p in
+      let rest = subst (λ (n : ℕ). Put e (take (n - d .length) (replicate 3 0)) b c r) k t in
+      subst (λ (x : List ℕ). Put at x s c r) (area-bytes (d .kind) (f .fits) z) (put-append h (put-append h head q) rest)
+
+-- a whole run of bytes, as it is
+pub whole-put : {at next : ℕ} {run old new : List ℕ} → Put at (take (length run) run) old new next → Put at run old new next
+whole-put {at} {next} {run} {old} {new} p = subst (λ (s : List ℕ). Put at s old new next) (take-length run) p
+
+-- the parts of a domain together
+pub stop-long : (mark node : ℕ) (exrs : List ℕ) (again : Bool) (d : Domain) → length (stopBytes mark node exrs again d) ≡ namedSize mark node again d + length exrs
+stop-long mark node exrs again d = simp length-append (omega arith)

@@ -1,17 +1,17 @@
 -- What the parts of `write_list` promise, over the definitions of `model`.
 use mathlib.Core.Path.{_≡_}
-use mathlib.Core.Bool.{Bool, true, false}
-use mathlib.Core.List.{List}
+use mathlib.Core.Bool.{Bool, true, false, not, _||_}
+use mathlib.Core.List.{List, [], _∷_, _++_}
 use mathlib.Core.Option.{Option, none, some}
-use Prim.Native.Nat.{ℕ, zero, suc, _≤_}
+use Prim.Native.Nat.{ℕ, zero, suc, _+_, _≤_}
 use lib.Dec.{eqb, leb}
-use lib.ListN.{length, take}
+use lib.ListN.{length, take, drop}
 use Rattle.model.specs.declared.Domain.{Domain}
 use Rattle.model.specs.declared.Verdict.the-variants.{Pass}
 use Rattle.model.specs.declared.WriteAnswer.{WriteAnswer}
-use Rattle.model.specs.Lists.{over}
+use Rattle.model.specs.Lists.{any, over}
 use Rattle.model.specs.Profile.{areaLengthFits, domains, verdictOn}
-use Rattle.model.specs.WrittenList.{stops, written, unwritable}
+use Rattle.model.specs.WrittenList.{writtenPin, pinIf, systemIf, writtenArea, wholeExrs, unfit}
 use Rattle.model.specs.Answers.{numbersOfWrite}
 use Rattle.model.specs.Calls.{writeList}
 
@@ -30,25 +30,26 @@ abbrev pub systemAgain : ℕ → ℕ → ℕ → Bool
 systemAgain zero before asn = false
 systemAgain (suc i) before asn = eqb asn before
 
--- the profile is accepted and the sequence can be written
-pub record Writable (profile indexes marks nodes : List ℕ) : Type 0 where
+-- the bytes of a domain, and how many of them are there beside its EXRS
+abbrev pub stopBytes : ℕ → ℕ → List ℕ → Bool → Domain → List ℕ
+stopBytes mark node exrs again d = writtenPin (pinIf mark node) ++ (exrs ++ (systemIf again (d .asn) ++ writtenArea (d .kind) d))
+
+abbrev pub namedSize : ℕ → ℕ → Bool → Domain → ℕ
+namedSize mark node again d = length (writtenPin (pinIf mark node)) + (length (systemIf again (d .asn)) + length (writtenArea (d .kind) d))
+
+-- the bytes are cut into parts by the counts, and one of them isn't whole EXRS
+unfoldable pub somePartBroken : List ℕ → List ℕ → Bool
+somePartBroken [] exrs = false
+somePartBroken (c ∷ cs) exrs = not (wholeExrs (take c exrs)) || somePartBroken cs (drop c exrs)
+
+-- at most 16 domains of an accepted profile, by lists that fit together
+pub record Fitting (profile indexes marks nodes counts exrs : List ℕ) : Type 0 where
   pub accepted : verdictOn profile ≡ Pass
-  pub writable : unwritable (domains profile) indexes marks nodes ≡ false
-
--- the first n bytes of the buffer are the written list
-pub record AllPut (profile indexes marks nodes out : List ℕ) (n : ℕ) : Type 0 where
-  pub bytes : take n out ≡ written (domains profile) (stops indexes marks nodes)
-  pub within : n ≤ 576
-
--- how many bytes go into a buffer: all, or none where it has not the room
-abbrev pub allIf : Bool → ℕ → ℕ
-allIf true n = n
-allIf false n = 0
-
-abbrev pub allOrNone : ℕ → ℕ → ℕ
-allOrNone n room = allIf (leb n room) n
+  pub most : length indexes ≤ 16
+  pub fit : unfit indexes marks nodes counts exrs ≡ false
+  pub in-profile : any (λ (d : ℕ). leb (length (domains profile)) d) indexes ≡ false
 
 -- the numbers answered and the buffer at exit are those of the definition
-pub record WrittenBy (profile indexes marks nodes entry exit : List ℕ) (answer : WriteAnswer) : Type 0 where
-  pub numbers : numbersOfWrite answer ≡ (writeList profile indexes marks nodes (length entry)) .numbers
-  pub buffer : exit ≡ over ((writeList profile indexes marks nodes (length entry)) .written) entry
+pub record WrittenBy (profile indexes marks nodes counts exrs entry exit : List ℕ) (answer : WriteAnswer) : Type 0 where
+  pub numbers : numbersOfWrite answer ≡ (writeList profile indexes marks nodes counts exrs (length entry)) .numbers
+  pub buffer : exit ≡ over ((writeList profile indexes marks nodes counts exrs (length entry)) .written) entry

@@ -21,12 +21,15 @@ pub record Numbers : Type 0 where
   pub answer : ℕ
   pub others : List ℕ
 
--- on a refusal every number but the place is 0; a call gives one, two or four others
+-- on a refusal every number but the place is 0; a call gives one to four others
 abbrev pub refused1 : Refusal → Numbers
 refused1 r = record { answer = r .number; others = r .place ∷ [] }
 
 abbrev pub refused2 : Refusal → Numbers
 refused2 r = record { answer = r .number; others = r .place ∷ 0 ∷ [] }
+
+abbrev pub refused3 : Refusal → Numbers
+refused3 r = record { answer = r .number; others = r .place ∷ 0 ∷ 0 ∷ [] }
 
 abbrev pub refused4 : Refusal → Numbers
 refused4 r = record { answer = r .number; others = r .place ∷ 0 ∷ 0 ∷ 0 ∷ [] }
@@ -40,6 +43,9 @@ roundNumber Second = 2
 abbrev pub done2 : ℕ → Numbers
 done2 n = record { answer = 0; others = 0 ∷ n ∷ [] }
 
+abbrev pub done3 : ℕ → ℕ → Numbers
+done3 n m = record { answer = 0; others = 0 ∷ n ∷ m ∷ [] }
+
 abbrev pub done4 : ℕ → ℕ → Round → Numbers
 done4 n m x = record { answer = 0; others = 0 ∷ n ∷ m ∷ roundNumber x ∷ [] }
 
@@ -52,10 +58,10 @@ abbrev pub numbersOfProfile : ProfileAnswer → Numbers
 numbersOfProfile Profile.Accepted = record { answer = 0; others = 0 ∷ [] }
 numbersOfProfile (Profile.Refused r) = refused1 r
 
--- others: place, how many domains
+-- others: place, how many domains, how many bytes of EXRS
 abbrev pub numbersOfRead : ReadAnswer → Numbers
-numbersOfRead (Read.Read n) = done2 n
-numbersOfRead (Read.Refused r) = refused2 r
+numbersOfRead (Read.Read n m) = done3 n m
+numbersOfRead (Read.Refused r) = refused3 r
 
 -- others: place, how many bytes
 abbrev pub numbersOfWrite : WriteAnswer → Numbers

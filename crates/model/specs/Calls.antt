@@ -12,7 +12,7 @@ use Rattle.model.specs.declared.Verdict.{Verdict}
 use Rattle.model.specs.declared.Verdict.the-variants.{Pass, Refuse}
 use Rattle.model.specs.declared.ListKind.the-variants.{Include}
 use Rattle.model.specs.declared.TreeEntry.{TreeEntry}
-use Rattle.model.specs.Lists.{below, keep}
+use Rattle.model.specs.Lists.{below, each, keep}
 use Rattle.model.specs.Verdict.{refuseIf, _andThen_}
 use Rattle.model.specs.Profile.{domains, verdictOn}
 use Rattle.model.specs.Subobject.{formVerdict}
@@ -23,7 +23,7 @@ use Rattle.model.specs.Request.{Request, Search, ingressVerdict, sizeVer
 use Rattle.model.specs.Path.{Route, shortestPaths}
 use Rattle.model.specs.Tree.{tree, tally}
 use Rattle.model.specs.Rounds.{roundOf, searchOf, overRounds}
-use Rattle.model.specs.Answers.{Numbers, refused1, refused2, refused4, done2, done4, plain4}
+use Rattle.model.specs.Answers.{Numbers, refused1, refused2, refused3, refused4, done2, done3, done4, plain4}
 
 -- the numbers answered, and the elements written
 pub record Outcome (A : Type 0) : Type 0 where
@@ -46,7 +46,7 @@ profileNumbers (Refuse r) = refused1 r
 unfoldable pub checkProfile : List ℕ → Numbers
 checkProfile profile = profileNumbers (verdictOn profile)
 
--- ---- read_include: the checks whose inputs it takes, then the capacity for each domain
+-- ---- read_include: the checks whose inputs it takes, then the capacity for each domain and for all EXRS together
 
 unfoldable pub readingOf : List ℕ → ℕ → List ℕ → Reading (List Stop)
 readingOf profile ingress list =
@@ -57,16 +57,21 @@ readingOf profile ingress list =
     andThen formVerdict Include list)
     (meaning (readingInput profile) ingress list)
 
+-- the bytes of all EXRS, domain by domain
+unfoldable pub allExrs : List Stop → List ℕ
+allExrs sequence = each (λ (p : Stop). p .exrs) sequence
+
 abbrev pub answerRead : Verdict → List Stop → Outcome Stop
-answerRead (Refuse r) sequence = nothing (refused2 r)
-answerRead Pass sequence = record { numbers = done2 (length sequence); written = sequence }
+answerRead (Refuse r) sequence = nothing (refused3 r)
+answerRead Pass sequence = record { numbers = done3 (length sequence) (length (allExrs sequence)); written = sequence }
 
-abbrev pub readInto : Reading (List Stop) → ℕ → Outcome Stop
-readInto (refused r) room = nothing (refused2 r)
-readInto (good sequence) room = answerRead (roomVerdict (length sequence) room) sequence
+-- `room` is that for the domains, `bytes` that for the EXRS
+abbrev pub readInto : Reading (List Stop) → ℕ → ℕ → Outcome Stop
+readInto (refused r) room bytes = nothing (refused3 r)
+readInto (good sequence) room bytes = answerRead (roomVerdict (length sequence) room andThen roomVerdict (length (allExrs sequence)) bytes) sequence
 
-unfoldable pub readInclude : List ℕ → ℕ → List ℕ → ℕ → Outcome Stop
-readInclude profile ingress list room = readInto (readingOf profile ingress list) room
+unfoldable pub readInclude : List ℕ → ℕ → List ℕ → ℕ → ℕ → Outcome Stop
+readInclude profile ingress list room bytes = readInto (readingOf profile ingress list) room bytes
 
 -- what a reading puts into the lent buffers for an entry constraint: the mark, and the node or 0
 abbrev pub pinMark : Option ℕ → ℕ
@@ -83,13 +88,13 @@ abbrev pub answerWrite : Verdict → List ℕ → Outcome ℕ
 answerWrite (Refuse r) bytes = nothing (refused2 r)
 answerWrite Pass bytes = record { numbers = done2 (length bytes); written = bytes }
 
-unfoldable pub writeList : List ℕ → List ℕ → List ℕ → List ℕ → ℕ → Outcome ℕ
-writeList profile indexes marks nodes room =
+unfoldable pub writeList : List ℕ → List ℕ → List ℕ → List ℕ → List ℕ → List ℕ → ℕ → Outcome ℕ
+writeList profile indexes marks nodes counts exrs room =
     let ds = domains profile in
-    let bytes = written ds (stops indexes marks nodes) in
+    let bytes = written ds (stops indexes marks nodes counts exrs) in
     answerWrite
     (verdictOn profile
-    andThen refuseIf (unwritable ds indexes marks nodes) 35 0
+    andThen refuseIf (unwritable ds indexes marks nodes counts exrs) 35 0
     andThen roomVerdict (length bytes) room)
     bytes
 

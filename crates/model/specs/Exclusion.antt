@@ -1,4 +1,5 @@
--- What an exclude list takes away, and in which round of a request: document 01, "Exclude list", and document 02, request [1]. An exclusion's X bit (`top`)
+-- What exclusions take away, those of an exclude list and those that an EXRS carries, and in which round of a request: document 01, "Exclude list", and document
+-- 02, requests [1] and [5]. An exclusion's X bit (`top`)
 -- says that it is only desired: it may be dropped where no other path meets the constraints (RFC 5521).
 use Prim.Native.Nat.{ℕ, _-_, _/_, _^_}
 use mathlib.Core.Bool.{Bool, true, false, not}
@@ -8,7 +9,7 @@ use Rattle.model.specs.declared.Domain.{Domain}
 use Rattle.model.specs.declared.Round.{Round}
 use Rattle.model.specs.declared.Round.the-variants.{First, Second}
 use Rattle.model.specs.Lists.{any, keep}
-use Rattle.model.specs.Subobject.{Named, prefix, system, area, Subobject}
+use Rattle.model.specs.Subobject.{Named, prefix, system, area, stretch, Subobject}
 use Rattle.model.specs.Sequence.{hasArea}
 
 -- in the first round every exclusion counts, whatever its X bit, in the second those of X clear
@@ -16,7 +17,7 @@ abbrev pub counts : Round → Bool → Bool
 counts First top = true
 counts Second top = not top
 
--- the exclusions in force in a round, of those that an exclude list holds
+-- the exclusions in force in a round, of those that a list holds
 unfoldable pub inForce : Round → List Subobject → List Subobject
 inForce x exclusions = keep (λ (s : Subobject). counts x (s .top)) exclusions
 
@@ -33,12 +34,14 @@ abbrev pub takesDomain : Domain → Named → Bool
 takesDomain d (prefix a n) = false
 takesDomain d (system n) = eqb (d .asn) n
 takesDomain d (area a) = hasArea a d
+takesDomain d (stretch bytes) = false
 
 -- an IPv4 subobject takes away each node inside its prefix
 abbrev pub takesNode : ℕ → Named → Bool
 takesNode node (prefix a n) = inPrefix a n node
 takesNode node (system n) = false
 takesNode node (area a) = false
+takesNode node (stretch bytes) = false
 
 unfoldable pub excludedDomain : List Subobject → Domain → Bool
 excludedDomain exclusions d = any (λ (s : Subobject). takesDomain d (s .names)) exclusions

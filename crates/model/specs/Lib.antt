@@ -19,4 +19,5 @@ pub mod Calls
 pub mod Series
 pub mod WorkedFloats
 pub mod WorkedCases
+pub mod WorkedExrs
 pub mod WorkedWays

@@ -3,7 +3,7 @@
 use Prim.Native.Nat.{ℕ, suc, _+_, _-_, _≤_, _<_}
 use mathlib.Core.Path.{_≡_}
 use mathlib.Core.Bool.{Bool, true, false, not, _&&_}
-use mathlib.Core.List.{List, [], _∷_, map, List·Memᴰ}
+use mathlib.Core.List.{List, [], _∷_, _++_, map, List·Memᴰ}
 use mathlib.Core.Option.{Option, none, some}
 use lib.ListN.{length, getD, drop}
 use lib.Dec.{eqb, leb, ltb}
@@ -38,7 +38,7 @@ keepsPin none a = true
 keepsPin (some node) a = eqb a node
 
 abbrev pub noStop : Stop
-noStop = stop 0 none
+noStop = stop 0 none []
 
 abbrev pub noLeg : Leg
 noLeg = record { from = 0; to = 0 }
@@ -49,9 +49,10 @@ stopAt S i = getD (S .sequence) i noStop
 abbrev pub legAt : Search → ℕ → Leg
 legAt S i = getD (legs (S .sequence)) i noLeg
 
--- the exclusions that count at place i of a path, for its domain and its address: at every place those of the search
+-- The exclusions that count at place i of a path, for its domain and its address: those that count at every place, and those that the EXRS of the domain there
+-- carry. Behind the last domain, at the destination, there are none of these; nor at the source, since the first domain has no EXRS.
 unfoldable pub exclusionsAt : Search → ℕ → List Subobject
-exclusionsAt S i = S .exclusions
+exclusionsAt S i = S .exclusions ++ getD (S .stretches) i []
 
 -- the domain at place i is excluded, and an address at place i
 abbrev pub domainExcludedAt : Search → ℕ → Bool

@@ -2,7 +2,7 @@
 use Prim.Native.Nat.{ℕ}
 use mathlib.Core.Path.{_≡_}
 use mathlib.Core.Bool.{Bool, not, _&&_}
-use mathlib.Core.List.{List}
+use mathlib.Core.List.{List, _++_, map}
 use lib.ListN.{length}
 use lib.Dec.{leb, ltb}
 use Rattle.model.specs.declared.Domain.{Domain}
@@ -12,9 +12,10 @@ use Rattle.model.specs.declared.Round.{Round}
 use Rattle.model.specs.declared.ListKind.the-variants.{Include, Exclude}
 use Rattle.model.specs.declared.Verdict.{Verdict}
 use Rattle.model.specs.declared.Verdict.the-variants.{Pass, Refuse}
+use Rattle.model.specs.Lists.{each}
 use Rattle.model.specs.Verdict.{refuseIf, _andThen_}
 use Rattle.model.specs.Profile.{Layout, layoutIn, domainCount, profileVerdict, domains, hops}
-use Rattle.model.specs.Subobject.{Subobject, formVerdict, subobjects}
+use Rattle.model.specs.Subobject.{Subobject, formVerdict, subobjects, carried}
 use Rattle.model.specs.Sequence.{Stop, Reading, refused, good, ReadingInput, meaning}
 use Rattle.model.specs.Exclusion.{inForce}
 use Rattle.model.specs.Floats.{inRange, floatOfBits}
@@ -93,15 +94,17 @@ Accepted r sequence = sequenceOf r ≡ good sequence
 
 -- ---- what a search needs of an accepted request
 
--- all exclusions of a request with this exclude list and this sequence
+-- all exclusions of a request with this exclude list and this sequence: those of the list, and those that the EXRS of each domain carry
 unfoldable pub allExclusions : List ℕ → List Stop → List Subobject
-allExclusions exclude sequence = subobjects exclude
+allExclusions exclude sequence = subobjects exclude ++ each (λ (p : Stop). carried (p .exrs)) sequence
 
+-- `exclusions` count at every place, and of `stretches` for each domain of the sequence those at its own place alone
 pub record Search : Type 0 where
   pub domains : List Domain
   pub hops : List Hop
   pub sequence : List Stop
   pub exclusions : List Subobject
+  pub stretches : List (List Subobject)
   pub source : ℕ
   pub destination : ℕ
   pub limits : Limits
@@ -113,7 +116,8 @@ searchIn x r sequence =
       domains = domains (r .profile);
       hops = hops (layoutFor r) (r .profile);
       sequence = sequence;
-      exclusions = inForce x (allExclusions (r .exclude) sequence);
+      exclusions = inForce x (subobjects (r .exclude));
+      stretches = map (λ (p : Stop). inForce x (carried (p .exrs))) sequence;
       source = r .source;
       destination = r .destination;
       limits = r .limits;

@@ -1,5 +1,5 @@
--- What an include list means: the sequence of domains and their entry constraints, or the refusal (28 to 32). Document 01, "Include list".
--- An entry constraint is document 01's "pin": the node by which a path must enter a domain.
+-- What an include list means: the sequence of domains with their entry constraints and EXRS, or the refusal (28 to 32, 42). Document 01, "Include list", and
+-- document 02, request [5]. An entry constraint is document 01's "pin": the node by which a path must enter a domain. An EXRS carries exclusions for one domain.
 use Prim.Native.Nat.{ℕ}
 use mathlib.Core.Bool.{Bool, true, false, _&&_}
 use mathlib.Core.List.{List, [], _∷_, _++_, map}
@@ -8,21 +8,27 @@ use lib.ListN.{length, getD, take}
 use lib.Dec.{eqb, leb}
 use Rattle.model.specs.declared.Domain.{Domain}
 use Rattle.model.specs.declared.Refusal.{Refusal}
-use Rattle.model.specs.Lists.{among, countFrom, keep, same}
-use Rattle.model.specs.Subobject.{Area, Named, prefix, system, area, Subobject, subobjects}
+use Rattle.model.specs.Lists.{among, countFrom, each, keep, same}
+use Rattle.model.specs.Subobject.{Area, Named, prefix, system, area, stretch, Subobject, subobjects}
 
--- One domain of a sequence, by its index, with its entry constraint if it has one. A sequence is the list of these, D0 to Dk.
+-- One domain of a sequence, by its index, with its entry constraint if it has one, and its EXRS, whole subobjects back to back. A sequence is the list of these,
+-- D0 to Dk.
 pub record Stop : Type 0 where
   pub domain : ℕ
   pub pin : Option ℕ
+  pub exrs : List ℕ
 
-abbrev pub stop : ℕ → Option ℕ → Stop
-stop d pin = record { domain = d; pin = pin }
+abbrev pub stop : ℕ → Option ℕ → List ℕ → Stop
+stop d pin exrs = record { domain = d; pin = pin; exrs = exrs }
 
--- what waits for the next new domain: the offset of its subobject, and the node of an entry constraint
+-- what waits for the next new domain: the offset of its subobject, and the node of an entry constraint or the bytes of an EXRS
+pub data Waits : Type 0 where
+  entry : ℕ → Waits
+  exclusions : List ℕ → Waits
+
 pub record Waiting : Type 0 where
   pub offset : ℕ
-  pub node : ℕ
+  pub what : Waits
 
 -- how far the reading is: the current AS, the domain one is in, the sequence so far, and what waits, in the list's order
 pub record State : Type 0 where
@@ -71,18 +77,29 @@ ofArea ds n a = keep (λ (d : ℕ). eqb ((domainOf ds d) .asn) n && hasArea a (d
 
 -- ---- one subobject after the other
 
--- an entry constraint as it waits: the offset of its subobject, and its node
-abbrev pub waitingFor : ℕ → ℕ → Waiting
-waitingFor at node = record { offset = at; node = node }
+abbrev pub waitingFor : ℕ → Waits → Waiting
+waitingFor at what = record { offset = at; what = what }
 
 -- the node that waits pins the domain that is entered
+abbrev pub nodeOr : Waits → Option ℕ → Option ℕ
+nodeOr (entry node) other = some node
+nodeOr (exclusions bytes) other = other
+
 abbrev pub pinOf : List Waiting → Option ℕ
 pinOf [] = none
-pinOf (w ∷ more) = some (w .node)
+pinOf (w ∷ more) = nodeOr (w .what) (pinOf more)
+
+-- the EXRS that wait add up, in their order
+abbrev pub bytesIn : Waits → List ℕ
+bytesIn (entry node) = []
+bytesIn (exclusions bytes) = bytes
+
+unfoldable pub exrsOf : List Waiting → List ℕ
+exrsOf waiting = each (λ (w : Waiting). bytesIn (w .what)) waiting
 
 -- a domain as it is entered, with what waits for it
 abbrev pub stopWith : ℕ → List Waiting → Stop
-stopWith d waiting = stop d (pinOf waiting)
+stopWith d waiting = stop d (pinOf waiting) (exrsOf waiting)
 
 -- a new domain at the end of the sequence
 abbrev pub added : State → ℕ → State
@@ -116,15 +133,20 @@ name at st (d ∷ e ∷ rest) = refuse 29 at
 abbrev pub withSystem : State → ℕ → State
 withSystem st n = record { asn = n; here = st .here; sequence = st .sequence; waiting = st .waiting }
 
--- an IPv4 subobject: its node waits for the next new domain; a second while one waits is 32
-abbrev pub wait : ℕ → State → ℕ → List Waiting → Reading State
-wait at st node (w ∷ more) = refuse 32 at
-wait at st node [] = good (record { asn = st .asn; here = st .here; sequence = st .sequence; waiting = waitingFor at node ∷ [] })
+-- one more waits for the next new domain
+abbrev pub waitsToo : ℕ → State → Waits → State
+waitsToo at st what = record { asn = st .asn; here = st .here; sequence = st .sequence; waiting = st .waiting ++ (waitingFor at what ∷ []) }
+
+-- an IPv4 subobject: its node waits; a second while one waits is 32
+abbrev pub wait : ℕ → State → ℕ → Option ℕ → Reading State
+wait at st node (some other) = refuse 32 at
+wait at st node none = good (waitsToo at st (entry node))
 
 abbrev pub isArea : Named → Bool
 isArea (prefix a n) = false
 isArea (system n) = false
 isArea (area a) = true
+isArea (stretch bytes) = false
 
 -- an area subobject comes next
 abbrev pub areaNext : List Subobject → Bool
@@ -136,19 +158,24 @@ abbrev pub readSystem : ReadingInput → ℕ → State → ℕ → Bool → Read
 readSystem R at st n true = good (withSystem st n)
 readSystem R at st n false = name at (withSystem st n) (ofSystem (R .domains) n)
 
--- an area names the domain of the current AS that has it
+-- an area names the domain of the current AS that has it; an EXRS waits, beside what waits already
 abbrev pub readNamed : ReadingInput → Subobject → State → Bool → Named → Reading State
-readNamed R s st next (prefix a n) = wait (s .offset) st a (st .waiting)
+readNamed R s st next (prefix a n) = wait (s .offset) st a (pinOf (st .waiting))
 readNamed R s st next (system n) = readSystem R (s .offset) st n next
 readNamed R s st next (area a) = name (s .offset) st (ofArea (R .domains) (st .asn) a)
+readNamed R s st next (stretch bytes) = good (waitsToo (s .offset) st (exclusions bytes))
 
 unfoldable pub readOne : ReadingInput → State → Subobject → Bool → Reading State
 readOne R st s next = readNamed R s st next (s .names)
 
--- an entry constraint left over at the end is 32 at its own offset
+-- an entry constraint left over at the end is 32, an EXRS 42, at its own offset; of several the first is told
+abbrev pub leftOver : Waits → ℕ
+leftOver (entry node) = 32
+leftOver (exclusions bytes) = 42
+
 abbrev pub finish : State → List Waiting → Reading (List Stop)
 finish st [] = good (st .sequence)
-finish st (w ∷ more) = refuse 32 (w .offset)
+finish st (w ∷ more) = refuse (leftOver (w .what)) (w .offset)
 
 unfoldable pub readAll : ReadingInput → List Subobject → State → Reading (List Stop)
 readAll R [] st = finish st (st .waiting)

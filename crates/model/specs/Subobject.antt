@@ -2,12 +2,13 @@
 use Prim.Native.Nat.{ℕ, _+_, _-_, _*_, _/_, _%_}
 use mathlib.Core.Bool.{Bool, true, false, not, cond, _&&_, _||_}
 use mathlib.Core.List.{List, [], _∷_, map}
-use lib.ListN.{length, getD}
+use lib.ListN.{length, getD, drop}
 use lib.Dec.{eqb, leb, ltb}
 use Rattle.model.specs.declared.Verdict.{Verdict}
+use Rattle.model.specs.declared.Verdict.the-variants.{Pass}
 use Rattle.model.specs.declared.ListKind.{ListKind}
 use Rattle.model.specs.declared.ListKind.the-variants.{Include, Exclude}
-use Rattle.model.specs.Lists.{any}
+use Rattle.model.specs.Lists.{any, each}
 use Rattle.model.specs.Bytes.{number, part, allZero}
 use Rattle.model.specs.Verdict.{refuseIf, _andThen_}
 use Rattle.model.specs.Along.{checkedFrom, placesFrom}
@@ -17,11 +18,12 @@ pub record Area : Type 0 where
   pub kind : ℕ
   pub bytes : List ℕ
 
--- what a subobject names: an address with its prefix length, an AS, an area
+-- what a subobject names: an address with its prefix length, an AS, an area; an EXRS (RFC 5521) is told by all its bytes
 pub data Named : Type 0 where
   prefix : ℕ → ℕ → Named
   system : ℕ → Named
   area : Area → Named
+  stretch : List ℕ → Named
 
 -- a subobject's offset in the list, its top bit (L in an include list, X in an exclude list), and what it names
 pub record Subobject : Type 0 where
@@ -41,6 +43,10 @@ pub record LengthRule : Type 0 where
 abbrev pub bothKinds : ListKind → Bool
 bothKinds k = true
 
+abbrev pub includeOnly : ListKind → Bool
+includeOnly Include = true
+includeOnly Exclude = false
+
 abbrev pub lengthRules : List LengthRule
 lengthRules =
     record { type = 1; lists = bothKinds; fixed = 8; withArea = 0; longer = false }
@@ -48,6 +54,7 @@ lengthRules =
     ∷ record { type = 6; lists = bothKinds; fixed = 8; withArea = 0; longer = false }
     ∷ record { type = 7; lists = bothKinds; fixed = 4; withArea = 1; longer = false }
     ∷ record { type = 32; lists = bothKinds; fixed = 4; withArea = 0; longer = false }
+    ∷ record { type = 33; lists = includeOnly; fixed = 4; withArea = 0; longer = true }
     ∷ []
 
 abbrev pub roundedUp : ℕ → ℕ
@@ -55,7 +62,7 @@ roundedUp n = (n + 3) / 4 * 4
 
 -- the rule is that of type t in such a list
 abbrev pub isRule : ListKind → ℕ → LengthRule → Bool
-isRule k t r = r .lists k && eqb t (r .type)
+isRule k t r = eqb t (r .type) && r .lists k
 
 -- the length that a rule asks for where the area has length a, and whether n keeps it
 abbrev pub ruled : LengthRule → ℕ → ℕ
@@ -99,9 +106,9 @@ prefixWrong Exclude s at = ltb 32 (getD s (at + 6) 0) || not (eqb (getD s (at + 
 abbrev pub paddingWrong : List ℕ → ℕ → Bool
 paddingWrong s at = not (allZero (part s (at + 4 + areaLengthAt s at) (lengthAt s at - (4 + areaLengthAt s at))))
 
--- the form of the subobject at an offset, in document 01's order within a subobject; what holds it ends at `end`
-unfoldable pub subobjectVerdict : ListKind → List ℕ → ℕ → ℕ → Verdict
-subobjectVerdict k s end at =
+-- the form of the subobject at an offset, in document 01's order within a subobject, but for what an EXRS carries; what holds it ends at `end`
+unfoldable pub plainVerdict : ListKind → List ℕ → ℕ → ℕ → Verdict
+plainVerdict k s end at =
     let t = typeAt s at in
     refuseIf (ltb end (at + 4)) 23 at
     andThen refuseIf (not (known k t)) 24 at
@@ -111,6 +118,25 @@ subobjectVerdict k s end at =
     andThen refuseIf (ltb end (at + lengthAt s at)) 23 at
     andThen refuseIf ((eqb t 1 && prefixWrong k s at) || (eqb t 7 && paddingWrong s at)) 26 at
 
+abbrev pub afterSubobject : List ℕ → ℕ → ℕ
+afterSubobject s at = at + lengthAt s at
+
+-- What an EXRS carries, behind its four bytes, of which the last two aren't looked at: with nothing inside 26, then the subobjects up to its end, each as in an
+-- exclude list, at its offset in the whole list (document 02, request [5])
+unfoldable pub carriedVerdict : List ℕ → ℕ → Verdict
+carriedVerdict s at =
+    let end = afterSubobject s at in
+    refuseIf (eqb (lengthAt s at) 4) 26 at andThen checkedFrom (plainVerdict Exclude s end) (afterSubobject s) end (at + 4)
+
+abbrev pub carriedIf : Bool → List ℕ → ℕ → Verdict
+carriedIf true s at = carriedVerdict s at
+carriedIf false s at = Pass
+
+-- the whole form of the subobject at an offset; only an include list knows EXRS
+unfoldable pub subobjectVerdict : ListKind → List ℕ → ℕ → ℕ → Verdict
+subobjectVerdict Exclude s end at = plainVerdict Exclude s end at
+subobjectVerdict Include s end at = plainVerdict Include s end at andThen carriedIf (eqb (typeAt s at) 33) s at
+
 -- what the subobject at an offset names, where its form is right
 unfoldable pub namedAt : List ℕ → ℕ → Named
 namedAt s at =
@@ -119,15 +145,13 @@ namedAt s at =
     (cond (eqb t 5) (system (number 4 s (at + 4)))
     (cond (eqb t 6) (area (record { kind = 1; bytes = part s (at + 4) 4 }))
     (cond (eqb t 7) (area (record { kind = 2; bytes = part s (at + 4) (areaLengthAt s at) }))
-    (system (number 2 s (at + 2))))))
+    (cond (eqb t 33) (stretch (part s at (lengthAt s at)))
+    (system (number 2 s (at + 2)))))))
 
 abbrev pub subobjectAt : List ℕ → ℕ → Subobject
 subobjectAt s at = record { offset = at; top = topAt s at; names = namedAt s at }
 
 -- ---- one subobject after the other, from an offset up to an end
-
-abbrev pub afterSubobject : List ℕ → ℕ → ℕ
-afterSubobject s at = at + lengthAt s at
 
 abbrev pub formFrom : ListKind → List ℕ → ℕ → ℕ → Verdict
 formFrom k s end at = checkedFrom (subobjectVerdict k s end) (afterSubobject s) end at
@@ -142,3 +166,15 @@ formVerdict k s = formFrom k s (length s) 0
 
 unfoldable pub subobjects : List ℕ → List Subobject
 subobjects s = subobjectsFrom s (length s) 0
+
+-- ---- the exclusions that EXRS carry, as in an exclude list
+
+abbrev pub insideOf : Named → List Subobject
+insideOf (prefix a n) = []
+insideOf (system n) = []
+insideOf (area a) = []
+insideOf (stretch bytes) = subobjects (drop 4 bytes)
+
+-- of several, given by their bytes back to back
+unfoldable pub carried : List ℕ → List Subobject
+carried exrs = each (λ (s : Subobject). insideOf (s .names)) (subobjects exrs)

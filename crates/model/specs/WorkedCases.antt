@@ -19,8 +19,8 @@ use Rattle.model.specs.Along.{checkedAlong, placesAlong}
 use Rattle.model.specs.Reserved.{inRanges, misplaced}
 use Rattle.model.specs.Profile as Profile
 use Rattle.model.specs.Subobject as Subobject
-use Rattle.model.specs.Sequence.{Stop, stop, Reading, refused, good, ofSystem, ofArea, enter, name, readOne, readAll, meaning}
-use Rattle.model.specs.WrittenList.{writtenFrom, written, stops, unwritable}
+use Rattle.model.specs.Sequence.{Stop, stop, Reading, refused, good, exrsOf, ofSystem, ofArea, enter, name, readOne, readAll, meaning}
+use Rattle.model.specs.WrittenList.{writtenFrom, written, stops, wholeExrs, unfit, unwritable}
 use Rattle.model.specs.Exclusion.{inForce, someDesired, excludedDomain, excludedNode}
 use Rattle.model.specs.Floats.{units, inRange, atLeast, atMost, floatOf}
 use Rattle.model.specs.Request.{Request, requestVerdict, sequenceOf, allExclusions, searchIn}
@@ -28,7 +28,7 @@ use Rattle.model.specs.Path as Path
 use Rattle.model.specs.Tree as Tree
 use Rattle.model.specs.Rounds.{roundOf, searchOf}
 use Rattle.model.specs.Answers.{Numbers}
-use Rattle.model.specs.Calls.{Outcome, pathLength, readingOf, readInclude, writeList, buildTree, first, greaterThan, next}
+use Rattle.model.specs.Calls.{Outcome, pathLength, readingOf, allExrs, readInclude, writeList, buildTree, first, greaterThan, next}
 use Rattle.model.specs.Series.{Call, Reply, firstCall, nextCall, book, run}
 
 -- ---- the two profiles, a record to a line
@@ -50,7 +50,7 @@ profileW =
     ++ (0x00 ∷ 0x02 ∷ 0x00 ∷ 0x02 ∷ 0xc0 ∷ 0x00 ∷ 0x02 ∷ 0x16 ∷ 0xc0 ∷ 0x00 ∷ 0x02 ∷ 0x63 ∷ 0x00 ∷ 0x00 ∷ 0x00 ∷ 0x03 ∷ 0x44 ∷ 0x7a ∷ 0x00 ∷ 0x00 ∷ [])
 
 -- 64500 area 0, 64501 areas 0 and 4, OSPF; no hops
-pub profileOspf : List ℕ
+unfoldable pub profileOspf : List ℕ
 profileOspf =
     (0x44 ∷ 0x53 ∷ 0x50 ∷ 0x00 ∷ 0x01 ∷ 0x00 ∷ 0x00 ∷ 0x03 ∷ 0x00 ∷ 0x00 ∷ 0x00 ∷ 0x00 ∷ [])
     ++ (0x00 ∷ 0x00 ∷ 0xfb ∷ 0xf4 ∷ 0x01 ∷ 0x04 ∷ 0x00 ∷ 0x00 ∷ 0x00 ∷ 0x00 ∷ 0x00 ∷ 0x00 ∷ 0x00 ∷ 0x00 ∷ 0x00 ∷ 0x00 ∷ 0x00 ∷ 0x00 ∷ 0x00 ∷ 0x00 ∷ [])
@@ -58,27 +58,27 @@ profileOspf =
     ++ (0x00 ∷ 0x00 ∷ 0xfb ∷ 0xf5 ∷ 0x01 ∷ 0x04 ∷ 0x00 ∷ 0x00 ∷ 0x00 ∷ 0x04 ∷ 0x00 ∷ 0x00 ∷ 0x00 ∷ 0x00 ∷ 0x00 ∷ 0x00 ∷ 0x00 ∷ 0x00 ∷ 0x00 ∷ 0x00 ∷ [])
 
 -- 192.0.2.1, .11, .12, .21, .22, .99
-abbrev S : ℕ
+abbrev pub S : ℕ
 S = 0xc0000201
 
-abbrev P : ℕ
+abbrev pub P : ℕ
 P = 0xc000020b
 
-abbrev Q : ℕ
+abbrev pub Q : ℕ
 Q = 0xc000020c
 
-abbrev T : ℕ
+abbrev pub T : ℕ
 T = 0xc0000215
 
-abbrev U : ℕ
+abbrev pub U : ℕ
 U = 0xc0000216
 
-abbrev Z : ℕ
+abbrev pub Z : ℕ
 Z = 0xc0000263
 
 -- ---- requests on W: ingress 0, S to Z, bandwidth 100.0, no bound and an empty exclude list unless said
 
-toEnd : List ℕ
+unfoldable pub toEnd : List ℕ
 toEnd = 0x20 ∷ 0x04 ∷ 0xfb ∷ 0xf1 ∷ 0x20 ∷ 0x04 ∷ 0xfb ∷ 0xf2 ∷ []
 
 toEnd5 : List ℕ
@@ -93,26 +93,26 @@ back : List ℕ
 back = 0x05 ∷ 0x08 ∷ 0x00 ∷ 0x00 ∷ 0x00 ∷ 0x00 ∷ 0xfb ∷ 0xf1 ∷ 0x05 ∷ 0x08 ∷ 0x00 ∷ 0x00 ∷ 0x00 ∷ 0x00 ∷ 0xfb ∷ 0xf0 ∷ []
 
 -- the exclusion of one node: demanded (X clear), and only desired (X set)
-without : ℕ → List ℕ
+unfoldable pub without : ℕ → List ℕ
 without last = 0x01 ∷ 0x08 ∷ 0xc0 ∷ 0x00 ∷ 0x02 ∷ last ∷ 0x20 ∷ 0x01 ∷ []
 
-desiredWithout : ℕ → List ℕ
+unfoldable pub desiredWithout : ℕ → List ℕ
 desiredWithout last = 0x81 ∷ 0x08 ∷ 0xc0 ∷ 0x00 ∷ 0x02 ∷ last ∷ 0x20 ∷ 0x01 ∷ []
 
 -- AS 64511, which W lacks, with X set
 desiredWithout64511 : List ℕ
 desiredWithout64511 = 0xa0 ∷ 0x04 ∷ 0xfb ∷ 0xff ∷ []
 
-plain : Limits
+unfoldable pub plain : Limits
 plain = record { bandwidth = ofBits binary32 0x42c80000; bound = ofBits binary32 0; bounded = false }
 
-bounded : ℕ → Limits
+unfoldable pub bounded : ℕ → Limits
 bounded bits = record { bandwidth = ofBits binary32 0x42c80000; bound = ofBits binary32 bits; bounded = true }
 
 above100 : Limits
 above100 = record { bandwidth = ofBits binary32 0x42c80001; bound = ofBits binary32 0; bounded = false }
 
-onW : List ℕ → List ℕ → Limits → Request
+unfoldable pub onW : List ℕ → List ℕ → Limits → Request
 onW include exclude limits =
     record { profile = profileW; ingress = 0; source = S; destination = Z; include = include; exclude = exclude; limits = limits }
 
@@ -130,8 +130,8 @@ alone = 0x05 ∷ 0x08 ∷ 0x00 ∷ 0x00 ∷ 0x00 ∷ 0x00 ∷ 0xfb ∷ 0xf5 ∷ 
 -- ---- the rows
 
 pub data Case : Type 0 where
-  reading : List ℕ → ℕ → List ℕ → ℕ → Case
-  writing : List ℕ → List ℕ → List ℕ → List ℕ → ℕ → Case
+  reading : List ℕ → ℕ → List ℕ → ℕ → ℕ → Case
+  writing : List ℕ → List ℕ → List ℕ → List ℕ → List ℕ → List ℕ → ℕ → Case
   building : Request → ℕ → Case
   starting : Request → ℕ → Case
   following : Request → List ℕ → ℕ → Case
@@ -146,13 +146,13 @@ pub data Result : Type 0 where
   replies : List Reply → Result
 
 -- what the reference series has for an accepted request
-bookOf : Request → Reading (List Stop) → List Call → List Reply
+unfoldable pub bookOf : Request → Reading (List Stop) → List Call → List Reply
 bookOf r (refused x) calls = []
 bookOf r (good sequence) calls = book (roundOf r sequence) (Path.shortestPaths (searchOf r sequence)) (pathLength sequence) 0 calls
 
-pub outcome : Case → Result
-outcome (reading profile ingress list room) = stopsRead (readInclude profile ingress list room)
-outcome (writing profile indexes marks nodes room) = bytesWritten (writeList profile indexes marks nodes room)
+unfoldable pub outcome : Case → Result
+outcome (reading profile ingress list room bytes) = stopsRead (readInclude profile ingress list room bytes)
+outcome (writing profile indexes marks nodes counts exrs room) = bytesWritten (writeList profile indexes marks nodes counts exrs room)
 outcome (building r room) = entriesBuilt (buildTree r room)
 outcome (starting r room) = path (first r room)
 outcome (following r given room) = path (next r given room)
@@ -164,16 +164,16 @@ pub record Row : Type 0 where
   pub expected : Result
 
 -- answer, place and the other numbers
-numbers : ℕ → List ℕ → Numbers
+unfoldable pub numbers : ℕ → List ℕ → Numbers
 numbers n others = record { answer = n; others = others }
 
-through : ℕ → Stop
-through d = stop d none
+unfoldable pub through : ℕ → Stop
+through d = stop d none []
 
-at : ℕ → ℕ → ℕ → TreeEntry
+unfoldable pub at : ℕ → ℕ → ℕ → TreeEntry
 at level node cost = record { level = level; address = record { 0 = node }; reachable = true; cost = cost }
 
-cut : ℕ → ℕ → TreeEntry
+unfoldable pub cut : ℕ → ℕ → TreeEntry
 cut level node = record { level = level; address = record { 0 = node }; reachable = false; cost = 0 }
 
 -- a path of total 14, whose float has the bits 41600000, found in the first round
@@ -181,11 +181,11 @@ costs14 : List ℕ → Outcome ℕ
 costs14 p = record { numbers = numbers 0 (0 ∷ 14 ∷ 0x41600000 ∷ 1 ∷ []); written = p }
 
 -- W's tree with this tally and round
-treeW : ℕ → ℕ → Outcome TreeEntry
+unfoldable pub treeW : ℕ → ℕ → Outcome TreeEntry
 treeW hops round = record { numbers = numbers 0 (0 ∷ 5 ∷ hops ∷ round ∷ []); written = at 0 S 14 ∷ at 1 P 4 ∷ at 1 Q 11 ∷ at 2 T 2 ∷ at 2 U 3 ∷ [] }
 
 -- a first and then nexts, each with five places to write to
-calls : ℕ → List Call
+unfoldable pub calls : ℕ → List Call
 calls n = record { kind = firstCall; buffer = 7 ∷ 7 ∷ 7 ∷ 7 ∷ 7 ∷ [] } ∷ nexts n
   where
     nexts : ℕ → List Call
@@ -193,45 +193,45 @@ calls n = record { kind = firstCall; buffer = 7 ∷ 7 ∷ 7 ∷ 7 ∷ 7 ∷ [] }
     nexts (suc n) = record { kind = nextCall; buffer = 7 ∷ 7 ∷ 7 ∷ 7 ∷ 7 ∷ [] } ∷ nexts n
 
 -- a path of total 14 in the buffer, the rest of which is untouched, found in a round; the end, and no path, with the buffer as it was
-givesIn : ℕ → List ℕ → Reply
+unfoldable pub givesIn : ℕ → List ℕ → Reply
 givesIn round p = record { numbers = numbers 0 (0 ∷ 14 ∷ 0x41600000 ∷ round ∷ []); buffer = p ++ (7 ∷ []) }
 
-gives : List ℕ → Reply
+unfoldable pub gives : List ℕ → Reply
 gives p = givesIn 1 p
 
-ends : Reply
+unfoldable pub ends : Reply
 ends = record { numbers = numbers 2 (0 ∷ 0 ∷ 0 ∷ 0 ∷ []); buffer = 7 ∷ 7 ∷ 7 ∷ 7 ∷ 7 ∷ [] }
 
-none-there : Reply
+unfoldable pub none-there : Reply
 none-there = record { numbers = numbers 1 (0 ∷ 0 ∷ 0 ∷ 0 ∷ []); buffer = 7 ∷ 7 ∷ 7 ∷ 7 ∷ 7 ∷ [] }
 
-SPUZ : List ℕ
+unfoldable pub SPUZ : List ℕ
 SPUZ = S ∷ P ∷ U ∷ Z ∷ []
 
 SPTZ : List ℕ
 SPTZ = S ∷ P ∷ T ∷ Z ∷ []
 
-SQTZ : List ℕ
+unfoldable pub SQTZ : List ℕ
 SQTZ = S ∷ Q ∷ T ∷ Z ∷ []
 
-SQUZ : List ℕ
+unfoldable pub SQUZ : List ℕ
 SQUZ = S ∷ Q ∷ U ∷ Z ∷ []
 
 three : Outcome Stop
-three = record { numbers = numbers 0 (0 ∷ 3 ∷ []); written = through 0 ∷ through 1 ∷ through 2 ∷ [] }
+three = record { numbers = numbers 0 (0 ∷ 3 ∷ 0 ∷ []); written = through 0 ∷ through 1 ∷ through 2 ∷ [] }
 
 no-path : Outcome ℕ
 no-path = record { numbers = numbers 1 (0 ∷ 0 ∷ 0 ∷ 0 ∷ []); written = [] }
 
-row : Case → Result → Row
+unfoldable pub row : Case → Result → Row
 row c x = record { case = c; expected = x }
 
 pub starred : List Row
 starred =
     -- the include list's tree, and the same of its longer form
     row (building (onW toEnd [] plain) 5) (entriesBuilt (treeW 8 1))
-    ∷ row (reading profileW 0 toEnd 3) (stopsRead three)
-    ∷ row (reading profileW 0 toEnd5 3) (stopsRead three)
+    ∷ row (reading profileW 0 toEnd 3 0) (stopsRead three)
+    ∷ row (reading profileW 0 toEnd5 3 0) (stopsRead three)
     ∷ row (building (onW toEnd5 [] plain) 5) (entriesBuilt (treeW 8 1))
     -- the three paths, then the end
     ∷ row (series (onW toEnd [] plain) (calls 3)) (replies (gives SPUZ ∷ gives SQTZ ∷ gives SQUZ ∷ ends ∷ []))
@@ -251,12 +251,12 @@ starred =
     ∷ row (starting (onW [] [] plain) 2) (path no-path)
     ∷ row (building (onW [] [] plain) 1) (entriesBuilt (record { numbers = numbers 0 (0 ∷ 1 ∷ 0 ∷ 1 ∷ []); written = cut 0 S ∷ [] }))
     -- 64496 comes back
-    ∷ row (reading profileW 0 back 3) (stopsRead (record { numbers = numbers 30 (8 ∷ 0 ∷ []); written = [] }))
+    ∷ row (reading profileW 0 back 3 0) (stopsRead (record { numbers = numbers 30 (8 ∷ 0 ∷ 0 ∷ []); written = [] }))
     -- one sequence, read in two ways and written in one; 64501 alone
-    ∷ row (reading profileOspf 0 short 3) (stopsRead three)
-    ∷ row (reading profileOspf 0 whole 3) (stopsRead three)
-    ∷ row (writing profileOspf (0 ∷ 1 ∷ 2 ∷ []) (0 ∷ 0 ∷ 0 ∷ []) (0 ∷ 0 ∷ 0 ∷ []) 40) (bytesWritten (record { numbers = numbers 0 (0 ∷ 40 ∷ []); written = whole }))
-    ∷ row (reading profileOspf 0 alone 3) (stopsRead (record { numbers = numbers 29 (0 ∷ 0 ∷ []); written = [] }))
+    ∷ row (reading profileOspf 0 short 3 0) (stopsRead three)
+    ∷ row (reading profileOspf 0 whole 3 0) (stopsRead three)
+    ∷ row (writing profileOspf (0 ∷ 1 ∷ 2 ∷ []) (0 ∷ 0 ∷ 0 ∷ []) (0 ∷ 0 ∷ 0 ∷ []) (0 ∷ 0 ∷ 0 ∷ []) [] 40) (bytesWritten (record { numbers = numbers 0 (0 ∷ 40 ∷ []); written = whole }))
+    ∷ row (reading profileOspf 0 alone 3 0) (stopsRead (record { numbers = numbers 29 (0 ∷ 0 ∷ 0 ∷ []); written = [] }))
     ∷ []
 
 -- document 02's request [1] on W
@@ -338,5 +338,5 @@ table = starred ++ desired ++ wide ++ prefixes
 
 -- every row holds
 pub worked-cases : map (λ (r : Row). outcome (r .case)) table ≡ map (λ (r : Row). r .expected) table
-unfolding profileW profileOspf toEnd toEnd5 throughU back without desiredWithout desiredWithout64511 plain bounded above100 onW short whole alone bookOf outcome numbers through at cut costs14 treeW calls givesIn gives ends none-there SPUZ SPTZ SQTZ SQUZ three no-path row starred desired dearer onDearer spuz wide around prefixes table countFrom keep all any each among allDifferent sum least same below insert different over number bytesOf allZero inTurn inRanges misplaced Profile.headerWrong Profile.countsWrong Profile.lengthWrong Profile.headerVerdict Profile.domainAt Profile.domains Profile.areaLengthFits Profile.domainMalformed Profile.domainMisordered Profile.domainVerdict Profile.hopAt Profile.hops Profile.hopMalformed Profile.hopMisordered Profile.hopVerdict Profile.entryNodes Profile.crowded Profile.crowdedVerdict Profile.profileVerdict Subobject.known Subobject.lengthFits Subobject.subobjectVerdict Subobject.namedAt checkedAlong placesAlong Subobject.formVerdict Subobject.subobjects ofSystem ofArea enter name readOne readAll meaning writtenFrom written stops unwritable inForce someDesired excludedDomain excludedNode units inRange atLeast atMost floatOf requestVerdict sequenceOf allExclusions searchIn roundOf searchOf Path.legs Path.keepsBound Path.exclusionsAt Path.allowed Path.hopsFrom Path.suffixes Path.paths Path.admissible Path.cheapest Path.shortestPaths Tree.entriesAt Tree.entry Tree.tree Tree.tally readingOf readInclude writeList buildTree first greaterThan next book run ofBits toBits ofFields odd size span climb ofInt round isNan Ieee.units trailingZeros Profile.layoutIn
+unfolding profileW profileOspf toEnd toEnd5 throughU back without desiredWithout desiredWithout64511 plain bounded above100 onW short whole alone bookOf outcome numbers through at cut costs14 treeW calls givesIn gives ends none-there SPUZ SPTZ SQTZ SQUZ three no-path row starred desired dearer onDearer spuz wide around prefixes table countFrom keep all any each among allDifferent sum least same below insert different over number bytesOf allZero inTurn inRanges misplaced Profile.headerWrong Profile.countsWrong Profile.lengthWrong Profile.headerVerdict Profile.domainAt Profile.domains Profile.areaLengthFits Profile.domainMalformed Profile.domainMisordered Profile.domainVerdict Profile.hopAt Profile.hops Profile.hopMalformed Profile.hopMisordered Profile.hopVerdict Profile.entryNodes Profile.crowded Profile.crowdedVerdict Profile.profileVerdict Subobject.known Subobject.lengthFits Subobject.plainVerdict Subobject.carriedVerdict Subobject.subobjectVerdict Subobject.namedAt checkedAlong placesAlong Subobject.formVerdict Subobject.subobjects Subobject.carried exrsOf ofSystem ofArea enter name readOne readAll meaning writtenFrom written stops wholeExrs unfit unwritable inForce someDesired excludedDomain excludedNode units inRange atLeast atMost floatOf requestVerdict sequenceOf allExclusions searchIn roundOf searchOf Path.legs Path.keepsBound Path.exclusionsAt Path.allowed Path.hopsFrom Path.suffixes Path.paths Path.admissible Path.cheapest Path.shortestPaths Tree.entriesAt Tree.entry Tree.tree Tree.tally readingOf allExrs readInclude writeList buildTree first greaterThan next book run ofBits toBits ofFields odd size span climb ofInt round isNan Ieee.units trailingZeros Profile.layoutIn
 worked-cases = refl

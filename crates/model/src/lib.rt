@@ -73,7 +73,7 @@ pub enum ProfileAnswer {
 }
 
 pub enum ReadAnswer {
-    Read { count: u32 },
+    Read { count: u32, exrs: u32 },
     Refused(Refusal),
 }
 

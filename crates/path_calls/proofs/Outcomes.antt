@@ -19,6 +19,7 @@ use Rattle.model.specs.Request.{Request, Search}
 use Rattle.model.specs.Path.{legs, keepsBound, Route, paths, admissible, shortestPaths}
 use Rattle.model.specs.Answers.{refused4}
 use Rattle.model.specs.Calls.{nothing, firstOf, answerPath, roomVerdict, givenVerdict, pathLength, firstInto, first, greaterThan, nextInto, next}
+use Rattle.laws.specs.Lists.{listsOf}
 use Rattle.laws.proofs.Lists.{keep-all, keep-mem}
 use Rattle.laws.proofs.Turns.{refuseIf-pass, andThen-pass}
 use Rattle.laws.proofs.Suffixes.{suffix-begins}
@@ -54,13 +55,13 @@ module _ (P : List ℕ) (asked : Asked) (I E : List ℕ) (r : CheckedRequest) (i
   req = requestFor P asked I E
 
   abbrev x : Round
-  x = roundFor (layoutIn P) P E (r .query)
+  x = roundFor (layoutIn P) P (listsOf I E) (r .query)
 
   abbrev S : Search
-  S = searchFor (layoutIn P) P E (inRound x (r .query))
+  S = searchFor (layoutIn P) P (listsOf I E) (inRound x (r .query))
 
-  needed : pathLength (queryStops (r .query)) ≡ suc (r .query .count)
-  needed = ap suc (stops-long (r .query))
+  needed : pathLength (queryStops I (r .query)) ≡ suc (r .query .count)
+  needed = ap suc (stops-long I (r .query))
 
   module _ (room : ℕ) where
     pub first-refused : (why : Refusal) → r .verdict ≡ Refuse why → first req room ≡ nothing (refused4 why)

@@ -16,17 +16,25 @@ ghost use lib.ListN.{length};
 ghost use Rattle.model.specs.Path.{shortestPaths};
 ghost use Rattle.model.specs.Profile.{layoutIn};
 ghost use Rattle.model.specs.Calls.{firstOf, greaterThan, first, next};
+ghost use Rattle.laws.specs.Lists.{listsOf};
 ghost use Rattle.request.specs.CheckedRequest.{requestFor};
 ghost use Rattle.request.specs.Query.{searchFor, inRound, roundFor, Ready};
 ghost use Rattle.path_answers.specs.PathReply.{noneNumber, ReplyIs};
 
 // The answer for a request that passed its checks: the first of the shortest paths above the given list, in the round that applies.
-fn sought_route(profile: &[u8], exclude: &[u8], q: Query, given: &[u32], again: bool) -> PathReply
-    requires { ⌜ Ready (layoutIn (now profile)) (now profile) (now exclude) q × (1 ≤ length (now given) → length (now given) ≡ suc (q .count)) ⌝ }
-    ensures { λ x. ⌜ ((room : ℕ) → suc (q .count) ≤ room → ReplyIs (firstOf (roundFor (layoutIn (now (profile .entry))) (now (profile .entry)) (now (exclude .entry)) q) (noneNumber again) (greaterThan (now (given .entry)) (shortestPaths (searchFor (layoutIn (now (profile .entry))) (now (profile .entry)) (now (exclude .entry)) (inRound (roundFor (layoutIn (now (profile .entry))) (now (profile .entry)) (now (exclude .entry)) q) q))))) room x) ⌝ }
+fn sought_route(
+    profile: &[u8],
+    include: &[u8],
+    exclude: &[u8],
+    q: Query,
+    given: &[u32],
+    again: bool,
+) -> PathReply
+    requires { ⌜ Ready (layoutIn (now profile)) (now profile) (listsOf (now include) (now exclude)) q × (1 ≤ length (now given) → length (now given) ≡ suc (q .count)) ⌝ }
+    ensures { λ x. ⌜ ((room : ℕ) → suc (q .count) ≤ room → ReplyIs (firstOf (roundFor (layoutIn (now (profile .entry))) (now (profile .entry)) (listsOf (now (include .entry)) (now (exclude .entry))) q) (noneNumber again) (greaterThan (now (given .entry)) (shortestPaths (searchFor (layoutIn (now (profile .entry))) (now (profile .entry)) (listsOf (now (include .entry)) (now (exclude .entry))) (inRound (roundFor (layoutIn (now (profile .entry))) (now (profile .entry)) (listsOf (now (include .entry)) (now (exclude .entry))) q) q))))) room x) ⌝ }
 {
     let layout = layout_in(profile);
-    let sought = search(profile, layout, exclude, q, given);
+    let sought = search(profile, layout, include, exclude, q, given);
     answered(sought, q.count, again)
 }
 
@@ -51,7 +59,7 @@ pub fn first_route(
         return refused(r);
     }
     let nothing = [0u32; 0];
-    sought_route(profile, exclude, q, &nothing, false)
+    sought_route(profile, include, exclude, q, &nothing, false)
 }
 
 // The next of the shortest paths after a given list of addresses, whether or not that is itself a path.
@@ -75,5 +83,5 @@ pub fn next_route(
     if let Verdict::Refuse(r) = fits {
         return refused(r);
     }
-    sought_route(profile, exclude, q, given, true)
+    sought_route(profile, include, exclude, q, given, true)
 }

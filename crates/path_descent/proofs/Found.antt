@@ -131,7 +131,7 @@ found-none (some r) e = absurd (true≢false e)
 
 module _ (S : Search) (L : Layout) (s : List ℕ) (q : Query) (addresses codes starts firsts lasts : List ℕ) (worked : Worked S L s q addresses codes starts firsts lasts) where
   sequence-long : length (S .sequence) ≡ q .count
-  sequence-long = ap length (worked .sequence-is) ∙ stops-long q
+  sequence-long = ap length (worked .sequence-is) ∙ stops-long (worked .include) q
 
   legs-long : (i : ℕ) → length (legsFrom S i) ≡ q .count - i
   legs-long i = length-drop i (legs (S .sequence)) ∙ ap (λ (n : ℕ). n - i) (length-legs (S .sequence) ∙ sequence-long)

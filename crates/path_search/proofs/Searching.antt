@@ -16,6 +16,7 @@ use Rattle.model.specs.Profile.{Layout, hops, costLimit}
 use Rattle.model.specs.Request.{Search}
 use Rattle.model.specs.Path.{legs, keepsBound, Route, suffixes, admissible, cheapest, shortestPaths}
 use Rattle.model.specs.Calls.{greaterThan}
+use Rattle.laws.specs.Lists.{Lists}
 use Rattle.laws.proofs.Lists.{keep-mem}
 use Rattle.laws.proofs.Accepted.{accepted}
 use Rattle.laws.proofs.HopKeys.{SortedHops}
@@ -47,16 +48,17 @@ use Rattle.path_search.specs.Searched.{ResultFor}
 
 -- what was worked out for a ready query
 pub worked-for
-    : (L : Layout) (s exclude : List ℕ) (q : Query) (addresses codes starts firsts lasts : List ℕ) (examined : ℕ)
-    → SoundLayout L → ((i : ℕ) → getD s i 0 < 256) → Ready L s exclude q
-    → WorkedOut L s (searchFor L s exclude q) addresses codes starts firsts lasts examined
-    → Worked (searchFor L s exclude q) L s q addresses codes starts firsts lasts
-worked-for L s exclude q addresses codes starts firsts lasts examined sound bytes ready out =
+    : (L : Layout) (s : List ℕ) (lists : Lists) (q : Query) (addresses codes starts firsts lasts : List ℕ) (examined : ℕ)
+    → SoundLayout L → ((i : ℕ) → getD s i 0 < 256) → Ready L s lists q
+    → WorkedOut L s (searchFor L s lists q) addresses codes starts firsts lasts examined
+    → Worked (searchFor L s lists q) L s q addresses codes starts firsts lasts
+worked-for L s lists q addresses codes starts firsts lasts examined sound bytes ready out =
     record {
       right = record { layout = sound; passed = ready .profile-right };
       bytes = bytes;
       bandwidth-right = ready .bandwidth-right;
       hops-are = refl;
+      include = lists .include;
       sequence-is = refl;
       limits-are = refl;
       most = ready .most;
@@ -65,12 +67,12 @@ worked-for L s exclude q addresses codes starts firsts lasts examined sound byte
       out = out;
     }
 
-module _ (L : Layout) (s exclude : List ℕ) (q : Query) (cheap : L .mostCost ≤ costLimit) (bytes : (i : ℕ) → getD s i 0 < 256) (ready : Ready L s exclude q) where
+module _ (L : Layout) (s : List ℕ) (lists : Lists) (q : Query) (cheap : L .mostCost ≤ costLimit) (bytes : (i : ℕ) → getD s i 0 < 256) (ready : Ready L s lists q) where
   abbrev S : Search
-  S = searchFor L s exclude q
+  S = searchFor L s lists q
 
   long : length (S .sequence) ≡ q .count
-  long = stops-long q
+  long = stops-long (lists .include) q
 
   sorted : SortedHops (S .hops)
   sorted = hops-sorted L s bytes (accepted L s (ready .profile-right))
@@ -81,12 +83,12 @@ module _ (L : Layout) (s exclude : List ℕ) (q : Query) (cheap : L .mostCost �
     cost = (reachFrom S (legs (S .sequence)) 0 (S .source)) .cost
 
     pub stands : (here ≡ unreachable → ⊥) → Stands S 0 (S .source) here
-    stands h = record { number = is; reached = omega (arith, small L s exclude q cheap ready here is h) }
+    stands h = record { number = is; reached = omega (arith, small L s lists q cheap ready here is h) }
 
     -- no path is admissible, so none is listed
     pub sought-none : (given : List ℕ) → keptBy (S .limits) here ≡ false → head? (greaterThan given (shortestPaths S)) ≡ none
     unfolding shortestPaths greaterThan keep
-    sought-none given f = go (admissible S) (none-admissible L s exclude q cheap ready here is ∙ ap not f)
+    sought-none given f = go (admissible S) (none-admissible L s lists q cheap ready here is ∙ ap not f)
       where
         go : (rs : List Route) → isEmpty rs ≡ true → head? (greaterThan given (cheapest rs)) ≡ none
         go [] e = ap (λ (rs : List Route). head? (greaterThan given rs)) cheapest-nil
@@ -98,7 +100,7 @@ module _ (L : Layout) (s exclude : List ℕ) (q : Query) (cheap : L .mostCost �
 
       bound : keepsBound (S .limits) cost ≡ true
       bound =
-          ap (keepsBound (S .limits)) (sym (cost-is L s exclude q cheap ready here is some-way))
+          ap (keepsBound (S .limits)) (sym (cost-is L s lists q cheap ready here is some-way))
           ∙ sym (ap (λ (b : Bool). not b && keepsBound (S .limits) here) (ne-eqb here unreachable some-way))
           ∙ kept
 
@@ -154,7 +156,7 @@ module _ (L : Layout) (s exclude : List ℕ) (q : Query) (cheap : L .mostCost �
               record {
                 path = r;
                 first = first-is ∙ e;
-                total-is = next-total S sorted (legs (S .sequence)) 0 (S .source) given e ∙ sym (cost-is L s exclude q cheap ready here is some-way);
+                total-is = next-total S sorted (legs (S .sequence)) 0 (S .source) given e ∙ sym (cost-is L s lists q cheap ready here is some-way);
                 addresses-are =
                     sym
                     (ap (take (suc (q .count))) (written r e)
@@ -177,17 +179,17 @@ result-none S given long x r e none-listed =
     (record { there = λ t. absurd (true≢false (sym t)); missing = λ f. none-listed; nothing-else = λ f. refl; cells = refl })
 
 -- a query whose round is settled: what is found for it is what is sought for the given one
-module _ (L : Layout) (s exclude : List ℕ) (q : Query) (addresses codes starts firsts lasts : List ℕ) (r : ChosenRound) (is : ChosenRoundIs L s exclude q addresses codes starts firsts lasts r) where
-  pub ready-settled : Ready L s exclude q → Ready L s exclude (r .query)
-  ready-settled ready = subst (Ready L s exclude) (sym (is .query-is)) (ready-in (roundFor L s exclude q) q ready)
+module _ (L : Layout) (s : List ℕ) (lists : Lists) (q : Query) (addresses codes starts firsts lasts : List ℕ) (r : ChosenRound) (is : ChosenRoundIs L s lists q addresses codes starts firsts lasts r) where
+  pub ready-settled : Ready L s lists q → Ready L s lists (r .query)
+  ready-settled ready = subst (Ready L s lists) (sym (is .query-is)) (ready-in (roundFor L s lists q) q ready)
 
   pub fits-settled : (given : List ℕ) → (1 ≤ length given → length given ≡ suc (q .count)) → 1 ≤ length given → length given ≡ suc (r .query .count)
   fits-settled given h = subst (λ (p : Query). 1 ≤ length given → length given ≡ suc (p .count)) (sym (is .query-is)) h
 
   pub sought-for
-      : (given : List ℕ) (x : SearchResult) → x .round ≡ r .query .round → ResultIs (searchFor L s exclude (r .query)) given (suc (r .query .count)) x → ResultFor L s exclude q given x
+      : (given : List ℕ) (x : SearchResult) → x .round ≡ r .query .round → ResultIs (searchFor L s lists (r .query)) given (suc (r .query .count)) x → ResultFor L s lists q given x
   sought-for given x round found =
       record {
         round-is = round ∙ ap (λ (p : Query). p .round) (is .query-is);
-        is = subst (λ (p : Query). ResultIs (searchFor L s exclude p) given (suc (p .count)) x) (is .query-is) found;
+        is = subst (λ (p : Query). ResultIs (searchFor L s lists p) given (suc (p .count)) x) (is .query-is) found;
       }

@@ -5,6 +5,7 @@ use mathlib.Core.List.{List, [], _∷_}
 use Prim.Native.Nat.{ℕ, suc}
 use lib.Dec.{eqb, ltb}
 use Rattle.model.specs.Profile.{Layout}
+use Rattle.laws.specs.Lists.{Lists}
 use Rattle.request.specs.declared.Query.{Query}
 use Rattle.request.specs.Query.{searchFor, inRound, roundFor}
 use Rattle.path_search.specs.declared.Start.{Start}
@@ -23,6 +24,6 @@ startOf [] a = Before
 startOf (x ∷ g) a = startIf (ltb x a) (eqb x a)
 
 -- what a search finds for a query: the round that applies is told, and what is found is what that round has
-pub record ResultFor (L : Layout) (s exclude : List ℕ) (q : Query) (given : List ℕ) (r : SearchResult) : Type 0 where
-  pub round-is : r .round ≡ roundFor L s exclude q
-  pub is : ResultIs (searchFor L s exclude (inRound (roundFor L s exclude q) q)) given (suc (q .count)) r
+pub record ResultFor (L : Layout) (s : List ℕ) (lists : Lists) (q : Query) (given : List ℕ) (r : SearchResult) : Type 0 where
+  pub round-is : r .round ≡ roundFor L s lists q
+  pub is : ResultIs (searchFor L s lists (inRound (roundFor L s lists q) q)) given (suc (q .count)) r

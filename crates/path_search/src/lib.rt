@@ -16,6 +16,7 @@ ghost use Prim.Native.Nat.{suc, _≤_, _<_};
 ghost use lib.ListN.{length};
 ghost use Rattle.model.specs.Request.{Search};
 ghost use Rattle.laws.specs.Descent.{nextFrom};
+ghost use Rattle.laws.specs.Lists.{listsOf};
 ghost use Rattle.profile_records.specs.Layout.{layoutOf, SoundLayout};
 ghost use Rattle.request.specs.Query.{Ready};
 ghost use Rattle.path_step.specs.Worked.{Worked, Stands, Ways};
@@ -106,10 +107,17 @@ fn above(
 }
 
 // The first of the shortest paths above the given list, in the round that applies; of all where the list is empty.
-pub fn search(s: &[u8], layout: Layout, exclude: &[u8], q: Query, given: &[u32]) -> SearchResult
-    requires { ⌜ SoundLayout (layoutOf layout) × Ready (layoutOf layout) (now s) (now exclude) q ⌝ }
+pub fn search(
+    s: &[u8],
+    layout: Layout,
+    include: &[u8],
+    exclude: &[u8],
+    q: Query,
+    given: &[u32],
+) -> SearchResult
+    requires { ⌜ SoundLayout (layoutOf layout) × Ready (layoutOf layout) (now s) (listsOf (now include) (now exclude)) q ⌝ }
     requires { ⌜ (1 ≤ length (now given) → length (now given) ≡ suc (q .count)) ⌝ }
-    ensures { λ r. ⌜ ResultFor (layoutOf layout) (now (s .entry)) (now (exclude .entry)) q (now (given .entry)) r ⌝ }
+    ensures { λ r. ⌜ ResultFor (layoutOf layout) (now (s .entry)) (listsOf (now (include .entry)) (now (exclude .entry))) q (now (given .entry)) r ⌝ }
 {
     let mut addresses = [0u32; 242];
     let mut reaches = [0u32; 242];
@@ -120,6 +128,7 @@ pub fn search(s: &[u8], layout: Layout, exclude: &[u8], q: Query, given: &[u32])
     let settled = settle(
         s,
         layout,
+        include,
         exclude,
         q,
         &mut addresses,

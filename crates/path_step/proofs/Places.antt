@@ -53,7 +53,7 @@ module _
     (w : Worked S L s q addresses codes starts firsts lasts) (i : ℕ) (h : i < q .count)
   where
     long : length (S .sequence) ≡ q .count
-    long = ap length (w .sequence-is) ∙ stops-long q
+    long = ap length (w .sequence-is) ∙ stops-long (w .include) q
 
     pub in-sequence : i < length (S .sequence)
     in-sequence = omega (arith, long)
@@ -67,7 +67,7 @@ module _
         omega (arith, w .right .layout .cheap)
 
     pub leg-is : legAt S i ≡ record { from = queryDomain q i; to = queryDomain q (nextPlace (q .count) i) }
-    leg-is = ap (λ (l : List Stop). getD (legs l) i noLeg) (w .sequence-is) ∙ leg-of q i h
+    leg-is = ap (λ (l : List Stop). getD (legs l) i noLeg) (w .sequence-is) ∙ leg-of (w .include) q i h
 
     pub leg-range : PairRange L s (queryDomain q i) (queryDomain q (nextPlace (q .count) i)) (getD firsts i 0) (getD lasts i 0)
     leg-range = subst (λ (leg : Leg). PairRange L s (leg .from) (leg .to) (getD firsts i 0) (getD lasts i 0)) leg-is (w .out .laid .ranges i in-sequence)

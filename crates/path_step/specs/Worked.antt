@@ -19,7 +19,8 @@ pub record Worked (S : Search) (L : Layout) (s : List ℕ) (q : Query) (addresse
   pub bytes : (i : ℕ) → getD s i 0 < 256
   pub bandwidth-right : inRange (q .limits .bandwidth) ≡ true
   pub hops-are : S .hops ≡ hops L s
-  pub sequence-is : S .sequence ≡ queryStops q
+  pub include : List ℕ
+  pub sequence-is : S .sequence ≡ queryStops include q
   pub limits-are : S .limits ≡ q .limits
   pub most : q .count ≤ 16
   pub domains-long : length (q .domains) ≡ 16

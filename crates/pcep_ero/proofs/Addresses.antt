@@ -15,11 +15,11 @@ use Rattle.model.specs.declared.Verdict.{Verdict}
 use Rattle.model.specs.declared.Verdict.the-variants.{Pass, Refuse}
 use Rattle.model.specs.Verdict.{refuseIf}
 use Rattle.model.specs.Along.{checkedFrom, placesFrom}
-use Rattle.model.specs.Subobject.{typeAt, lengthAt, areaLengthAt, subobjectVerdict, afterSubobject}
+use Rattle.model.specs.Subobject.{typeAt, lengthAt, areaLengthAt, plainVerdict, afterSubobject}
 use Rattle.laws.proofs.Tests.{decide, and-false}
 use Rattle.laws.proofs.Turns.{andThen-pass, refuseIf-pass}
 use Rattle.laws.proofs.Along as Along
-use Rattle.laws.proofs.Walk.{Right, right-subobject}
+use Rattle.laws.proofs.Walk.{Right, right-plain}
 use Rattle.pcep_model.specs.Pcrep.{stepVerdict, eroVerdict, addressAt, addressesIn}
 use Rattle.pcep_ero.proofs.Steps.{fits-1}
 
@@ -46,8 +46,8 @@ module _ (e : List ℕ) where
   pub eight : (at : ℕ) → stepVerdict e at ≡ Pass → Eight e at
   unfolding stepVerdict
   eight at p =
-      let both = andThen-pass (refuseIf (leb (at + 4) (length e) && not (eqb (typeAt e at) 1)) 24 at) (subobjectVerdict Include e (length e) at) .0 p in
-      let r : Right Include e (length e) at = right-subobject Include e (length e) at (both .1) in
+      let both = andThen-pass (refuseIf (leb (at + 4) (length e) && not (eqb (typeAt e at) 1)) 24 at) (plainVerdict Include e (length e) at) .0 p in
+      let r : Right Include e (length e) at = right-plain Include e (length e) at (both .1) in
       let head : leb (at + 4) (length e) ≡ true = le-leb (at + 4) (length e) (r .head) in
       let other = and-false (leb (at + 4) (length e)) (not (eqb (typeAt e at) 1)) (refuseIf-pass _ 24 at .0 (both .0)) head in
       let one : typeAt e at ≡ 1 = eqb-true (typeAt e at) 1 (not-false (eqb (typeAt e at) 1) other) in

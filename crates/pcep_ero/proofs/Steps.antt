@@ -13,7 +13,7 @@ use Rattle.model.specs.declared.Verdict.{Verdict}
 use Rattle.model.specs.declared.Verdict.the-variants.{Pass}
 use Rattle.model.specs.Lists.{any}
 use Rattle.model.specs.Verdict.{refuseIf, _andThen_}
-use Rattle.model.specs.Subobject.{roundedUp, known, lengthFits, typeAt, topAt, lengthAt, areaLengthAt, subobjectVerdict}
+use Rattle.model.specs.Subobject.{roundedUp, known, lengthFits, typeAt, topAt, lengthAt, areaLengthAt, plainVerdict}
 use Rattle.refusal.specs.Refused.{refusal}
 use Rattle.pcep_model.specs.Pcrep.{stepVerdict}
 
@@ -37,7 +37,7 @@ no-area false f p x at = refl
 
 module _ (e : List ℕ) (at : ℕ) where
   pub short : length e < at + 4 → stepVerdict e at ≡ refusal 23 at
-  unfolding stepVerdict subobjectVerdict
+  unfolding stepVerdict plainVerdict
   short h = rw (lt-leb (at + 4) (length e) h, lt-ltb (length e) (at + 4) h) refl
 
   module _ (long : at + 4 ≤ length e) where
@@ -48,7 +48,7 @@ module _ (e : List ℕ) (at : ℕ) where
     module _ (one : typeAt e at ≡ 1) where
       -- past the type: L, the length, the end, the prefix length
       judged : stepVerdict e at ≡ behind (topAt e at) (eqb (lengthAt e at) 8) (ltb (length e) (at + lengthAt e at)) (not (eqb (getD e (at + 6) 0) 32)) at
-      unfolding stepVerdict subobjectVerdict
+      unfolding stepVerdict plainVerdict
       judged =
           rw (one, le-leb (at + 4) (length e) long, le-ltb (length e) (at + 4) long, known-1, fits-1 (areaLengthAt e at) (lengthAt e at), or-false (not (eqb (getD e (at + 6) 0) 32)))
           (no-area (topAt e at) (eqb (lengthAt e at) 8) (ltb (length e) (at + lengthAt e at)) (not (eqb (getD e (at + 6) 0) 32)) at)

@@ -1,4 +1,4 @@
--- What the calls that take or make a message say and write by their answer: as for the other calls (`Quiet` of `laws`), with numbers up to 41. By going through the checks.
+-- What the calls that take or make a message say and write by their answer: as for the other calls (`Quiet` of `laws`), with numbers up to 41, and 42 where an include list is read. By going through the checks.
 use Prim.Native.Nat.{ℕ, _+_, _-_, _≤_}
 use native.Mathlib.Omega.{arith}
 use mathlib.Core.Path.{_≡_, refl}
@@ -13,7 +13,7 @@ use Rattle.model.specs.Lists.{any}
 use Rattle.model.specs.Subobject as Subobject
 use Rattle.model.specs.Request.{sequenceOf}
 use Rattle.model.specs.Calls.{Outcome, buildTree, first, next}
-use Rattle.laws.proofs.RefusalNumbers.{Refusing, test, both, more, along, subobject-refusing, sequence-reads, sizes-refusing, forms-refusing}
+use Rattle.laws.proofs.RefusalNumbers.{Refusing, test, both, more, along, plain-refusing, sequence-reads, sizes-refusing, forms-refusing}
 use Rattle.laws.proofs.Quiet.{QuietNumbers, Quiet, refused-numbers, done-numbers, refused-quiet, done-quiet, room, write-by, tree-of, first-from, next-from}
 use Rattle.pcep_model.specs.declared.MessageKind.{MessageKind}
 use Rattle.pcep_model.specs.declared.MessageKind.the-variants.{Pcreq, Pcrep}
@@ -56,7 +56,11 @@ message-refusing k s =
 step-refusing : (e : List ℕ) (at : ℕ) → Refusing 41 (stepVerdict e at)
 unfolding stepVerdict
 step-refusing e at =
-    both 41 high (test 41 high (leb (at + 4) (length e) && not (eqb (Subobject.typeAt e at) 1)) 24 at (omega arith)) (subobject-refusing 41 high Include e (length e) at)
+    both 41 high (test 41 high (leb (at + 4) (length e) && not (eqb (Subobject.typeAt e at) 1)) 24 at (omega arith)) (plain-refusing 41 high Include e (length e) at)
+
+-- up to a higher number
+widened : (v : Verdict) → Refusing 41 v → Refusing 42 v
+widened v h = record { numbered = λ x e. let n = h .numbered x e in (n .0, omega (arith, n .1)) }
 
 -- ---- the calls
 
@@ -64,9 +68,16 @@ pcreq-by : (v : Verdict) (s : List ℕ) → Refusing 41 v → Quiet 41 (answerPc
 pcreq-by Pass s h = done-quiet 41 high _ (metrics s)
 pcreq-by (Refuse x) s h = refused-quiet 41 high 10 x (h .numbered x refl)
 
-behind-by : {A : Type 0} (v : Verdict) (o : Outcome A) → Refusing 41 v → Quiet 41 o → Quiet 41 (behind v o)
+-- with the meaning of an include list, whose highest number is 42
+within : 35 ≤ 42
+within = omega arith
+
+highest : 42 ≤ 42
+highest = omega arith
+
+behind-by : {A : Type 0} (v : Verdict) (o : Outcome A) → Refusing 42 v → Quiet 42 o → Quiet 42 (behind v o)
 behind-by Pass o h k = k
-behind-by (Refuse x) o h k = refused-quiet 41 high 3 x (h .numbered x refl)
+behind-by (Refuse x) o h k = refused-quiet 42 within 3 x (h .numbered x refl)
 
 -- a PCRep that is read: numbers, and what goes to both kinds of buffers
 pub record QuietReading (r : Reading) : Type 0 where
@@ -84,9 +95,9 @@ pcrep-by (Refuse x) s h =
 
 pub record MessagesQuiet : Type 0 where
   pub read-pcreq : (s : List ℕ) (there : ℕ) → Quiet 41 (readPcreq s there)
-  pub pcreq-tree : (profile : List ℕ) (ingress : ℕ) (s : List ℕ) (there : ℕ) → Quiet 41 (pcreqTree profile ingress s there)
-  pub pcreq-first : (profile : List ℕ) (ingress : ℕ) (s : List ℕ) (there : ℕ) → Quiet 41 (pcreqFirst profile ingress s there)
-  pub pcreq-next : (profile : List ℕ) (ingress : ℕ) (s given : List ℕ) (there : ℕ) → Quiet 41 (pcreqNext profile ingress s given there)
+  pub pcreq-tree : (profile : List ℕ) (ingress : ℕ) (s : List ℕ) (there : ℕ) → Quiet 42 (pcreqTree profile ingress s there)
+  pub pcreq-first : (profile : List ℕ) (ingress : ℕ) (s : List ℕ) (there : ℕ) → Quiet 42 (pcreqFirst profile ingress s there)
+  pub pcreq-next : (profile : List ℕ) (ingress : ℕ) (s given : List ℕ) (there : ℕ) → Quiet 42 (pcreqNext profile ingress s given there)
   pub write-pcrep : (r : Reply) (unequal : Bool) (there : ℕ) → Quiet 41 (writePcrep r unequal there)
   pub read-pcrep : (s : List ℕ) (addressRoom metricRoom : ℕ) → QuietReading (readPcrep s addressRoom metricRoom)
 
@@ -104,12 +115,12 @@ messages-quiet =
           (forms-refusing 41 high (listIn s (includeExtent s)) (listIn s (excludeExtent s))))
           (room 41 high (length (metrics s)) there));
       pcreq-tree = λ profile ingress s there.
-          let r = carried profile ingress s in behind-by (messageVerdict Pcreq s) _ (message-refusing Pcreq s) (tree-of 41 high r (sequenceOf r) there (sequence-reads 41 high r));
+          let r = carried profile ingress s in behind-by (messageVerdict Pcreq s) _ (widened (messageVerdict Pcreq s) (message-refusing Pcreq s)) (tree-of 42 within r (sequenceOf r) there (sequence-reads 42 within highest r));
       pcreq-first = λ profile ingress s there.
-          let r = carried profile ingress s in behind-by (messageVerdict Pcreq s) _ (message-refusing Pcreq s) (first-from 41 high r (sequenceOf r) there (sequence-reads 41 high r));
+          let r = carried profile ingress s in behind-by (messageVerdict Pcreq s) _ (widened (messageVerdict Pcreq s) (message-refusing Pcreq s)) (first-from 42 within r (sequenceOf r) there (sequence-reads 42 within highest r));
       pcreq-next = λ profile ingress s given there.
           let r = carried profile ingress s in
-          behind-by (messageVerdict Pcreq s) _ (message-refusing Pcreq s) (next-from 41 high r (sequenceOf r) given there (sequence-reads 41 high r));
+          behind-by (messageVerdict Pcreq s) _ (widened (messageVerdict Pcreq s) (message-refusing Pcreq s)) (next-from 42 within r (sequenceOf r) given there (sequence-reads 42 within highest r));
       write-pcrep = λ r unequal there.
           write-by 41 high _ (writtenPcrep r)
           (both 41 high

@@ -6,12 +6,14 @@ use mathlib.Core.Path.{_≡_, ap, _∙_}
 use mathlib.Core.List.{List, [], _∷_, _++_, map, map-id}
 use lib.ListN.{length, getD}
 use borrow.Author.Tests.{le-leb}
+use Rattle.model.specs.declared.ListKind.the-variants.{Include}
 use Rattle.model.specs.declared.Verdict.the-variants.{Pass}
 use Rattle.model.specs.Lists.{each}
 use Rattle.model.specs.Bytes.{bytesOf}
 use Rattle.model.specs.Subobject as Subobject
 use Rattle.laws.proofs.Numbers.{number-shift, number-bytesOf}
 use Rattle.laws.proofs.InARow.{Stands, stands-inside, stands-getD, stands-first, stands-number, Each, Row, in-a-row, checked-row, places-row, read-row}
+use Rattle.laws.proofs.Forms.{plain-of}
 use Rattle.laws.proofs.Subobjects.{right-standing}
 use Rattle.laws.proofs.WrittenForm.{pin-encoded}
 use Rattle.pcep_model.specs.Pcrep.{stepVerdict, eroVerdict, addressAt, addressesIn, writtenStep}
@@ -31,7 +33,7 @@ module _ (e : List ℕ) where
   unfolding stepVerdict bytesOf
   step-passes at a h w =
       let inside : at + 4 ≤ length e = omega (arith, stands-inside e at (writtenStep a) h) in
-      rw (le-leb (at + 4) (length e) inside, stands-first e at (writtenStep a) h) (right-standing h (stands-inside e at (writtenStep a) h) (pin-encoded a w .right))
+      rw (le-leb (at + 4) (length e) inside, stands-first e at (writtenStep a) h) (plain-of Include e (length e) at (right-standing Include e (writtenStep a) (length e) at h (stands-inside e at (writtenStep a) h) (pin-encoded a w .right)))
 
   onward : (at a : ℕ) → Stands e at (writtenStep a) → Word a → Subobject.afterSubobject e at ≡ at + length (writtenStep a)
   unfolding bytesOf

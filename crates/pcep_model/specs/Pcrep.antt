@@ -29,7 +29,7 @@ use Rattle.pcep_model.specs.Pcreq.{rpFlagsOf, requestIdOf}
 unfoldable pub stepVerdict : List ℕ → ℕ → Verdict
 stepVerdict e at =
     refuseIf (leb (at + 4) (length e) && not (eqb (Subobject.typeAt e at) 1)) 24 at
-    andThen Subobject.subobjectVerdict Include e (length e) at
+    andThen Subobject.plainVerdict Include e (length e) at
 
 abbrev pub eroVerdict : List ℕ → Verdict
 eroVerdict e = checkedFrom (stepVerdict e) (Subobject.afterSubobject e) (length e) 0

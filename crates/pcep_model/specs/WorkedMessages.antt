@@ -15,7 +15,7 @@ use Rattle.model.specs.Verdict.{inTurn}
 use Rattle.model.specs.Reserved.{inRanges, misplaced}
 use Rattle.model.specs.Profile as Profile
 use Rattle.model.specs.Subobject as Subobject
-use Rattle.model.specs.Sequence.{ofSystem, ofArea, enter, name, readOne, readAll, meaning}
+use Rattle.model.specs.Sequence.{exrsOf, ofSystem, ofArea, enter, name, readOne, readAll, meaning}
 use Rattle.model.specs.Exclusion.{inForce, someDesired, excludedDomain, excludedNode}
 use Rattle.model.specs.Floats.{units, inRange, atLeast, atMost, floatOf}
 use Rattle.model.specs.Request.{requestVerdict, sequenceOf, allExclusions, searchIn}
@@ -78,6 +78,23 @@ iro = 0x0a ∷ 0x10 ∷ 0x00 ∷ 0x0c ∷ 0x20 ∷ 0x04 ∷ 0xfb ∷ 0xf1 ∷ 0x
 -- the same, whose length reaches four bytes past its end
 longIro : List ℕ
 longIro = 0x0a ∷ 0x10 ∷ 0x00 ∷ 0x10 ∷ 0x20 ∷ 0x04 ∷ 0xfb ∷ 0xf1 ∷ 0x20 ∷ 0x04 ∷ 0xfb ∷ 0xf2 ∷ []
+
+-- before 64497 an EXRS with Q, 192.0.2.12; and one behind which no domain comes
+exrsIro : List ℕ
+exrsIro =
+    (0x0a ∷ 0x10 ∷ 0x00 ∷ 0x18 ∷ [])
+    ++ (0x21 ∷ 0x0c ∷ 0x00 ∷ 0x00 ∷ 0x01 ∷ 0x08 ∷ 0xc0 ∷ 0x00 ∷ 0x02 ∷ 0x0c ∷ 0x20 ∷ 0x01 ∷ [])
+    ++ (0x20 ∷ 0x04 ∷ 0xfb ∷ 0xf1 ∷ 0x20 ∷ 0x04 ∷ 0xfb ∷ 0xf2 ∷ [])
+
+lateIro : List ℕ
+lateIro =
+    (0x0a ∷ 0x10 ∷ 0x00 ∷ 0x14 ∷ [])
+    ++ (0x20 ∷ 0x04 ∷ 0xfb ∷ 0xf1 ∷ [])
+    ++ (0x21 ∷ 0x0c ∷ 0x00 ∷ 0x00 ∷ 0x01 ∷ 0x08 ∷ 0xc0 ∷ 0x00 ∷ 0x02 ∷ 0x0c ∷ 0x20 ∷ 0x01 ∷ [])
+
+-- an EXRS with nothing inside
+emptyIro : List ℕ
+emptyIro = 0x0a ∷ 0x10 ∷ 0x00 ∷ 0x0c ∷ 0x20 ∷ 0x04 ∷ 0xfb ∷ 0xf1 ∷ 0x21 ∷ 0x04 ∷ 0x00 ∷ 0x00 ∷ []
 
 -- F set; Q, 192.0.2.12, excluded
 xro : List ℕ
@@ -267,6 +284,13 @@ answers =
     -- Q excluded, no BANDWIDTH, and a bound of 14.0
     ∷ row (starting asksMore 4) (costs14 SPUZ)
     ∷ row (following asksMore SPUZ 4) (no-answer 2 0)
+    -- an EXRS in the IRO keeps Q out; with no domain after it 42 at its offset in the list, which a reading alone doesn't ask; with nothing inside 26 there
+    ∷ row (starting (pcreq 0x3c (rp ++ endPoints ++ bandwidth ++ exrsIro)) 4) (costs14 SPUZ)
+    ∷ row (following (pcreq 0x3c (rp ++ endPoints ++ bandwidth ++ exrsIro)) SPUZ 4) (no-answer 2 0)
+    ∷ row (starting (pcreq 0x38 (rp ++ endPoints ++ bandwidth ++ lateIro)) 4) (no-answer 42 4)
+    ∷ row (readingPcreq (pcreq 0x38 (rp ++ endPoints ++ bandwidth ++ lateIro)) 0)
+    (fields (record { numbers = numbers 0 (0 ∷ 7 ∷ 0x23 ∷ 0xc0000201 ∷ 0xc0000263 ∷ 0x42c80000 ∷ 0 ∷ 40 ∷ 16 ∷ 0 ∷ 0 ∷ []); written = [] }))
+    ∷ row (readingPcreq (pcreq 0x30 (rp ++ endPoints ++ bandwidth ++ emptyIro)) 0) (unread 26 4)
     -- 36 to 40 come before all else, here no END-POINTS
     ∷ row (starting (pcreq 0x24 (rp ++ bandwidth ++ iro)) 4) (no-answer 40 0)
     ∷ []
@@ -304,5 +328,5 @@ table = requests ++ answers ++ exchanged
 
 -- every row holds
 pub worked-messages : map (λ (r : Row). outcome (r .case)) table ≡ map (λ (r : Row). r .expected) table
-unfolding pcreq pcrep rp cleanRp rpWithTlv endPoints bandwidth metric14 metric13 endless iro longIro xro demandedOf otherOf ero mixedEro zeroEro noPath asks asksWith asksWithBoth asksMore pathFound noneFound outcome row numbers metric unread no-answer no-reply costs14 at SPUZ SQTZ SQUZ route noRoute replied requests answers exchanged table profileW countFrom keep all any each among allDifferent sum least same below insert different number bytesOf allZero inTurn inRanges misplaced Profile.headerWrong Profile.countsWrong Profile.lengthWrong Profile.headerVerdict Profile.domainAt Profile.domains Profile.areaLengthFits Profile.domainMalformed Profile.domainMisordered Profile.domainVerdict Profile.hopAt Profile.hops Profile.hopMalformed Profile.hopMisordered Profile.hopVerdict Profile.entryNodes Profile.crowded Profile.crowdedVerdict Profile.profileVerdict Subobject.known Subobject.lengthFits Subobject.subobjectVerdict Subobject.namedAt Subobject.formVerdict Subobject.subobjects ofSystem ofArea enter name readOne readAll meaning inForce someDesired excludedDomain excludedNode units inRange atLeast atMost floatOf requestVerdict sequenceOf allExclusions searchIn roundOf searchOf Path.legs Path.keepsBound Path.exclusionsAt Path.allowed Path.hopsFrom Path.suffixes Path.paths Path.admissible Path.cheapest Path.shortestPaths Tree.entriesAt Tree.entry Tree.tree Tree.tally buildTree first greaterThan next ofBits toBits ofFields odd size span climb ofInt round isNan Ieee.units trailingZeros checkedAlong placesAlong firstOf knownObject ownLength objectVerdict firstObject messageVerdict metrics wrongMetric boundMetric pcreqVerdict readPcreq pcreqTree pcreqFirst pcreqNext stepVerdict addressesIn pcrepVerdict readPcrep writtenPcrep writeVerdict writePcrep metricsOf Profile.layoutIn
+unfolding pcreq pcrep rp cleanRp rpWithTlv endPoints bandwidth metric14 metric13 endless iro longIro exrsIro lateIro emptyIro xro demandedOf otherOf ero mixedEro zeroEro noPath asks asksWith asksWithBoth asksMore pathFound noneFound outcome row numbers metric unread no-answer no-reply costs14 at SPUZ SQTZ SQUZ route noRoute replied requests answers exchanged table profileW countFrom keep all any each among allDifferent sum least same below insert different number bytesOf allZero inTurn inRanges misplaced Profile.headerWrong Profile.countsWrong Profile.lengthWrong Profile.headerVerdict Profile.domainAt Profile.domains Profile.areaLengthFits Profile.domainMalformed Profile.domainMisordered Profile.domainVerdict Profile.hopAt Profile.hops Profile.hopMalformed Profile.hopMisordered Profile.hopVerdict Profile.entryNodes Profile.crowded Profile.crowdedVerdict Profile.profileVerdict Subobject.known Subobject.lengthFits Subobject.plainVerdict Subobject.carriedVerdict Subobject.subobjectVerdict Subobject.namedAt Subobject.formVerdict Subobject.subobjects Subobject.carried exrsOf ofSystem ofArea enter name readOne readAll meaning inForce someDesired excludedDomain excludedNode units inRange atLeast atMost floatOf requestVerdict sequenceOf allExclusions searchIn roundOf searchOf Path.legs Path.keepsBound Path.exclusionsAt Path.allowed Path.hopsFrom Path.suffixes Path.paths Path.admissible Path.cheapest Path.shortestPaths Tree.entriesAt Tree.entry Tree.tree Tree.tally buildTree first greaterThan next ofBits toBits ofFields odd size span climb ofInt round isNan Ieee.units trailingZeros checkedAlong placesAlong firstOf knownObject ownLength objectVerdict firstObject messageVerdict metrics wrongMetric boundMetric pcreqVerdict readPcreq pcreqTree pcreqFirst pcreqNext stepVerdict addressesIn pcrepVerdict readPcrep writtenPcrep writeVerdict writePcrep metricsOf Profile.layoutIn
 worked-messages = refl

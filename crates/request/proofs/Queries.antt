@@ -12,6 +12,7 @@ use Rattle.model.specs.declared.Verdict.the-variants.{Pass, Refuse}
 use Rattle.model.specs.Profile.{layoutIn, domains, domainCount}
 use Rattle.model.specs.Sequence.{refused, good, meaning}
 use Rattle.model.specs.Request.{Request, readingInput, provided, requestVerdict, sequenceOf}
+use Rattle.laws.specs.Lists.{listsOf}
 use Rattle.laws.specs.Stops.{stopsOf}
 use Rattle.laws.proofs.Turns.{refuse-not-pass}
 use Rattle.laws.proofs.Lists.{mem-map, mem-countFrom}
@@ -60,6 +61,7 @@ queryOf st source destination limits =
       domains = st .domains;
       pinned = st .pinned;
       pins = st .pins;
+      named = st .named;
       source = source;
       destination = destination;
       limits = limits;
@@ -70,20 +72,23 @@ module _ (req : Request) (st : State) (source destination : NodeAddress) where
   abbrev q : Query
   q = queryOf st source destination (req .limits)
 
-  module _ (passed : PassedRequest req) (sound : R.SoundState st) (means : meaning (readingInput (req .profile)) (req .ingress) (req .include) ≡ good (R.stateStops st)) where
+  module _ (passed : PassedRequest req) (sound : R.SoundState st) (placed : R.Placed (req .include) st)
+      (means : meaning (readingInput (req .profile)) (req .ingress) (req .include) ≡ good (R.stateStops (req .include) st)) where
     inside : (i : ℕ) → i < q .count → queryDomain q i < domainCount (req .profile)
     unfolding stopsOf
     inside i h =
         subst (λ (n : ℕ). queryDomain q i < n) (length-domains (req .profile))
-        (meaning-inside (readingInput (req .profile)) (req .ingress) (req .include) (queryStops q) means
+        (meaning-inside (readingInput (req .profile)) (req .ingress) (req .include) (queryStops (req .include) q) means
         (subst (λ (n : ℕ). req .ingress < n) (sym (length-domains (req .profile))) (passed .ingress))
-        (queryStop q i)
-        (mem-map (queryStop q) (mem-countFrom 0 (q .count) i (omega arith) (omega arith))))
+        (queryStop (req .include) q i)
+        (mem-map (queryStop (req .include) q) (mem-countFrom 0 (q .count) i (omega arith) (omega arith))))
 
-    pub ready-query : Ready (layoutIn (req .profile)) (req .profile) (req .exclude) q
+    pub ready-query : Ready (layoutIn (req .profile)) (req .profile) (listsOf (req .include) (req .exclude)) q
     ready-query =
         record {
           profile-right = passed .profile;
+          include-right = passed .include-form;
+          include-short = passed .include-size;
           exclude-right = passed .exclude-form;
           bandwidth-right = passed .bandwidth;
           bound-right = passed .bound;
@@ -92,6 +97,8 @@ module _ (req : Request) (st : State) (source destination : NodeAddress) where
           domains-long = sound .domains-long;
           pinned-long = sound .pinned-long;
           pins-long = sound .pins-long;
+          named-long = sound .named-long;
           known = inside;
-          apart = meaning-different (readingInput (req .profile)) (req .ingress) (req .include) (queryStops q) means;
+          placed = placed;
+          apart = meaning-different (readingInput (req .profile)) (req .ingress) (req .include) (queryStops (req .include) q) means;
         }

@@ -12,6 +12,7 @@ use Rattle.model.specs.Verdict.{_andThen_}
 use Rattle.model.specs.Profile.{layoutIn, verdictOn}
 use Rattle.model.specs.Sequence.{good}
 use Rattle.model.specs.Request.{Request, ingressVerdict, provided, sequenceOf}
+use Rattle.laws.specs.Lists.{listsOf}
 use Rattle.request.specs.declared.Asked.{Asked}
 use Rattle.request.specs.declared.CheckedRequest.{CheckedRequest}
 use Rattle.request.specs.Query.{queryStops, Ready}
@@ -48,6 +49,7 @@ refusedBy r asked =
             domains = replicate 16 (record { 0 = 0 });
             pinned = replicate 16 0;
             pins = replicate 16 (record { 0 = 0 });
+            named = replicate 16 0;
             source = asked .source;
             destination = asked .destination;
             limits = asked .limits;
@@ -57,10 +59,10 @@ refusedBy r asked =
 
 -- the refusal, or a query in the first round that is ready for a search and whose sequence is the request's; source, destination and limits are kept in any case
 pub record RequestIs (profile : List ℕ) (asked : Asked) (include exclude : List ℕ) (r : CheckedRequest) : Type 0 where
-  pub means : provided (r .verdict) (good (queryStops (r .query))) ≡ sequenceOf (requestFor profile asked include exclude)
+  pub means : provided (r .verdict) (good (queryStops include (r .query))) ≡ sequenceOf (requestFor profile asked include exclude)
   pub source-kept : r .query .source ≡ asked .source
   pub destination-kept : r .query .destination ≡ asked .destination
   pub limits-kept : r .query .limits ≡ asked .limits
   pub in-first : r .query .round ≡ First
-  pub ready : r .verdict ≡ Pass → Ready (layoutIn profile) profile exclude (r .query)
+  pub ready : r .verdict ≡ Pass → Ready (layoutIn profile) profile (listsOf include exclude) (r .query)
   pub none : (x : Refusal) → r .verdict ≡ Refuse x → r ≡ refusedBy x asked

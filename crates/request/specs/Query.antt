@@ -1,42 +1,49 @@
 -- What the code's query stands for, over the definitions of `model`.
 use mathlib.Core.Path.{_≡_}
 use mathlib.Core.Bool.{true}
-use mathlib.Core.List.{List}
-use Prim.Native.Nat.{ℕ, _≤_, _<_}
-use lib.ListN.{length}
-use Rattle.model.specs.declared.ListKind.the-variants.{Exclude}
+use mathlib.Core.List.{List, map}
+use Prim.Native.Nat.{ℕ, _-_, _≤_, _<_}
+use lib.ListN.{length, getD}
+use Rattle.model.specs.declared.ListKind.the-variants.{Include, Exclude}
 use Rattle.model.specs.declared.Round.{Round}
 use Rattle.model.specs.declared.Round.the-variants.{First}
 use Rattle.model.specs.declared.Verdict.the-variants.{Pass}
 use Rattle.model.specs.Lists.{allDifferent}
 use Rattle.model.specs.Profile.{Layout, domainCount, domains, hops, profileVerdict}
-use Rattle.model.specs.Subobject.{formVerdict}
+use Rattle.model.specs.Subobject.{formVerdict, subobjects, carried}
 use Rattle.model.specs.Sequence.{Stop, domainsOf}
 use Rattle.model.specs.Exclusion.{inForce}
 use Rattle.model.specs.Floats.{inRange}
 use Rattle.model.specs.Request.{Search, allExclusions}
 use Rattle.model.specs.Rounds.{roundBy}
-use Rattle.laws.specs.Stops.{domainIn, stopIn, stopsOf}
+use Rattle.laws.specs.Lists.{Lists}
+use Rattle.laws.specs.Exrs.{Stretch}
+use Rattle.laws.specs.Stops.{domainIn, stretchStart, stopIn, stopsOf}
 use Rattle.request.specs.declared.Query.{Query}
 
--- domain i of the sequence, alone and with its entry constraint, and the whole sequence
+-- domain i of the sequence, alone and with its entry constraint and its EXRS, and the whole sequence, over the include list
 abbrev pub queryDomain : Query → ℕ → ℕ
 queryDomain q = domainIn (q .domains)
 
-abbrev pub queryStop : Query → ℕ → Stop
-queryStop q = stopIn (q .domains) (q .pinned) (q .pins)
+abbrev pub queryStop : List ℕ → Query → ℕ → Stop
+queryStop include q = stopIn include (q .domains) (q .pinned) (q .pins) (q .named)
 
-abbrev pub queryStops : Query → List Stop
-queryStops q = stopsOf (q .count) (q .domains) (q .pinned) (q .pins)
+abbrev pub queryStops : List ℕ → Query → List Stop
+queryStops include q = stopsOf include (q .count) (q .domains) (q .pinned) (q .pins) (q .named)
 
--- the search that a query stands for in its round, over a profile and an exclude list
-abbrev pub searchFor : Layout → List ℕ → List ℕ → Query → Search
-searchFor L profile exclude q =
+-- where the subobject stands that named the last domain
+abbrev pub lastNamed : Query → ℕ
+lastNamed q = getD (q .named) (q .count - 1) 0
+
+-- the search that a query stands for in its round, over a profile and the two lists
+abbrev pub searchFor : Layout → List ℕ → Lists → Query → Search
+searchFor L profile lists q =
     record {
       domains = domains profile;
       hops = hops L profile;
-      sequence = queryStops q;
-      exclusions = inForce (q .round) (allExclusions exclude (queryStops q));
+      sequence = queryStops (lists .include) q;
+      exclusions = inForce (q .round) (subobjects (lists .exclude));
+      stretches = map (λ (p : Stop). inForce (q .round) (carried (p .exrs))) (queryStops (lists .include) q);
       source = q .source .0;
       destination = q .destination .0;
       limits = q .limits;
@@ -50,6 +57,7 @@ inRound x q =
       domains = q .domains;
       pinned = q .pinned;
       pins = q .pins;
+      named = q .named;
       source = q .source;
       destination = q .destination;
       limits = q .limits;
@@ -57,13 +65,16 @@ inRound x q =
     }
 
 -- the round that applies to a query, whatever round it is in
-unfoldable pub roundFor : Layout → List ℕ → List ℕ → Query → Round
-roundFor L profile exclude q = roundBy (allExclusions exclude (queryStops q)) (searchFor L profile exclude (inRound First q))
+unfoldable pub roundFor : Layout → List ℕ → Lists → Query → Round
+roundFor L profile lists q = roundBy (allExclusions (lists .exclude) (queryStops (lists .include) q)) (searchFor L profile lists (inRound First q))
 
--- what the checks of a request leave: a right profile, a right exclude list, limits in range, and 1 to 16 different domains of the profile
-pub record Ready (L : Layout) (profile exclude : List ℕ) (q : Query) : Type 0 where
+-- what the checks of a request leave: a right profile, two right lists, limits in range, and 1 to 16 different domains of the profile, the part of the include list
+-- before each of which is whole subobjects
+pub record Ready (L : Layout) (profile : List ℕ) (lists : Lists) (q : Query) : Type 0 where
   pub profile-right : profileVerdict L profile ≡ Pass
-  pub exclude-right : formVerdict Exclude exclude ≡ Pass
+  pub include-right : formVerdict Include (lists .include) ≡ Pass
+  pub include-short : length (lists .include) ≤ 1024
+  pub exclude-right : formVerdict Exclude (lists .exclude) ≡ Pass
   pub bandwidth-right : inRange (q .limits .bandwidth) ≡ true
   pub bound-right : q .limits .bounded ≡ true → inRange (q .limits .bound) ≡ true
   pub some-domain : 1 ≤ q .count
@@ -71,5 +82,7 @@ pub record Ready (L : Layout) (profile exclude : List ℕ) (q : Query) : Type 0 
   pub domains-long : length (q .domains) ≡ 16
   pub pinned-long : length (q .pinned) ≡ 16
   pub pins-long : length (q .pins) ≡ 16
+  pub named-long : length (q .named) ≡ 16
   pub known : (i : ℕ) → i < q .count → queryDomain q i < domainCount profile
-  pub apart : allDifferent (domainsOf (queryStops q)) ≡ true
+  pub placed : (i : ℕ) → i < q .count → Stretch (lists .include) (stretchStart (q .named) i) (getD (q .named) i 0)
+  pub apart : allDifferent (domainsOf (queryStops (lists .include) q)) ≡ true

@@ -25,13 +25,15 @@ pub struct Asked {
     pub limits: Limits,
 }
 
-// What a search needs of an accepted request beside the profile and the exclude list: the sequence of `count` domains with their entry constraints,
-// where a path starts and ends, the limits, and the round in which it is looked for.
+// What a search needs of an accepted request beside the profile and the two lists: the sequence of `count` domains with their entry constraints and where in the
+// include list the subobjects stand that named them (the EXRS of a domain are those between the one that named the domain before and its own), where a path starts
+// and ends, the limits, and the round in which it is looked for.
 pub struct Query {
     pub count: usize,
     pub domains: [DomainIndex; 16],
     pub pinned: [u8; 16],
     pub pins: [NodeAddress; 16],
+    pub named: [u16; 16],
     pub source: NodeAddress,
     pub destination: NodeAddress,
     pub limits: Limits,
@@ -57,6 +59,7 @@ fn refused(r: Refusal, asked: Asked) -> CheckedRequest
             domains: [DomainIndex(0); 16],
             pinned: [0u8; 16],
             pins: [NodeAddress(0); 16],
+            named: [0u16; 16],
             source,
             destination,
             limits,
@@ -83,6 +86,7 @@ pub fn read_query(profile: &[u8], asked: Asked, include: &[u8], exclude: &[u8]) 
     let domains = read.state.domains;
     let pinned = read.state.pinned;
     let pins = read.state.pins;
+    let named = read.state.named;
     CheckedRequest {
         verdict: Verdict::Pass,
         query: Query {
@@ -90,6 +94,7 @@ pub fn read_query(profile: &[u8], asked: Asked, include: &[u8], exclude: &[u8]) 
             domains,
             pinned,
             pins,
+            named,
             source,
             destination,
             limits,
@@ -118,6 +123,7 @@ pub fn in_round(q: Query, round: Round) -> Query
     let domains = q.domains;
     let pinned = q.pinned;
     let pins = q.pins;
+    let named = q.named;
     let source = q.source;
     let destination = q.destination;
     let limits = q.limits;
@@ -126,6 +132,7 @@ pub fn in_round(q: Query, round: Round) -> Query
         domains,
         pinned,
         pins,
+        named,
         source,
         destination,
         limits,

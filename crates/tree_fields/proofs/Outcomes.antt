@@ -22,6 +22,7 @@ use Rattle.model.specs.Sequence.{refused}
 use Rattle.model.specs.Answers.{done4, refused4}
 use Rattle.model.specs.Calls.{Outcome, nothing, answerTree, treeInto, buildTree}
 use Rattle.model.specs.Tree.{tree, tally}
+use Rattle.laws.specs.Lists.{Lists}
 use Rattle.laws.proofs.Accepted.{accepted}
 use Rattle.laws.proofs.Layouts.{cost-limited, few-hops}
 use Rattle.laws.proofs.AcceptedPaths.{accepted-costs}
@@ -61,27 +62,27 @@ refused-outcome r room addresses codes starts =
 -- ---- a query whose round is settled and whose tree is worked out in it
 
 module _
-    (s exclude : List ℕ) (q : Query) (room : ℕ) (ready : Ready (layoutIn s) s exclude q)
-    (addresses codes starts firsts lasts : List ℕ) (r : ChosenRound) (is : ChosenRoundIs (layoutIn s) s exclude q addresses codes starts firsts lasts r)
+    (s : List ℕ) (lists : Lists) (q : Query) (room : ℕ) (ready : Ready (layoutIn s) s lists q)
+    (addresses codes starts firsts lasts : List ℕ) (r : ChosenRound) (is : ChosenRoundIs (layoutIn s) s lists q addresses codes starts firsts lasts r)
   where
     abbrev p : Query
     p = r .query
 
     abbrev S : Search
-    S = searchFor (layoutIn s) s exclude p
+    S = searchFor (layoutIn s) s lists p
 
-    ready-settled : Ready (layoutIn s) s exclude p
-    ready-settled = subst (Ready (layoutIn s) s exclude) (sym (is .query-is)) (ready-in (roundFor (layoutIn s) s exclude q) q ready)
+    ready-settled : Ready (layoutIn s) s lists p
+    ready-settled = subst (Ready (layoutIn s) s lists) (sym (is .query-is)) (ready-in (roundFor (layoutIn s) s lists q) q ready)
 
     few : length (S .sequence) ≤ 16
-    few = omega (arith, stops-long p, ready-settled .most)
+    few = omega (arith, stops-long (lists .include) p, ready-settled .most)
 
     cheap : (h : Hop) → List·Memᴰ h (S .hops) → h .cost ≤ costLimit
     cheap h m = omega (arith, accepted-costs (layoutIn s) s (ready .profile-right) h m, cost-limited s)
 
     -- the start of the place behind the last domain is the number of entries
     counted : getD starts (p .count) 0 ≡ startOf S (length (S .sequence))
-    counted = ap (λ (k : ℕ). getD starts k 0) (sym (stops-long p)) ∙ starts-at S few cheap (layoutIn s) s addresses codes starts firsts lasts (is .examined) (is .worked) (length (S .sequence)) (omega arith)
+    counted = ap (λ (k : ℕ). getD starts k 0) (sym (stops-long (lists .include) p)) ∙ starts-at S few cheap (layoutIn s) s addresses codes starts firsts lasts (is .examined) (is .worked) (length (S .sequence)) (omega arith)
 
     pub places-few : p .count ≤ 16
     places-few = ready-settled .most
@@ -92,17 +93,17 @@ module _
     pub tally-small : r .tally ≤ 6000
     tally-small =
         let hops = accepted (layoutIn s) s (ready .profile-right) .mostHops in
-        omega (arith, few-hops s, is .most, twice (roundFor (layoutIn s) s exclude q) (is .examined), is .tally-is)
+        omega (arith, few-hops s, is .most, twice (roundFor (layoutIn s) s lists q) (is .examined), is .tally-is)
       where
         twice : (x : Round) (n : ℕ) → overRounds x n ≤ n + n
         twice First n = omega arith
         twice Second n = omega arith
 
     -- what is said of the settled query is said of the given one
-    given-query : (x : TreeResult) → TreeResultIs (treeOutcome (p .round) S room) room addresses codes starts x → TreeResultIs (treeFor s exclude q room) room addresses codes starts x
-    given-query x = subst (λ (y : Query). TreeResultIs (treeOutcome (y .round) (searchFor (layoutIn s) s exclude y) room) room addresses codes starts x) (is .query-is)
+    given-query : (x : TreeResult) → TreeResultIs (treeOutcome (p .round) S room) room addresses codes starts x → TreeResultIs (treeFor s lists q room) room addresses codes starts x
+    given-query x = subst (λ (y : Query). TreeResultIs (treeOutcome (y .round) (searchFor (layoutIn s) s lists y) room) room addresses codes starts x) (is .query-is)
 
-    too-small : room < getD starts (p .count) 0 → TreeResultIs (treeFor s exclude q room) room addresses codes starts (refusedBy (record { number = 34; place = 0 }))
+    too-small : room < getD starts (p .count) 0 → TreeResultIs (treeFor s lists q room) room addresses codes starts (refusedBy (record { number = 34; place = 0 }))
     too-small h =
         let e : room < length (tree S) = omega (arith, counted, tree-length S) in
         given-query (refusedBy (record { number = 34; place = 0 }))
@@ -117,7 +118,7 @@ module _
     tally-is : r .tally ≡ overRounds (p .round) (tally S)
     tally-is = is .tally-is ∙ ap₂ overRounds (sym (ap (λ (y : Query). y .round) (is .query-is))) (is .worked .laid .tally-is)
 
-    enough : getD starts (p .count) 0 ≤ room → TreeResultIs (treeFor s exclude q room) room addresses codes starts all
+    enough : getD starts (p .count) 0 ≤ room → TreeResultIs (treeFor s lists q room) room addresses codes starts all
     enough h =
         let e : length (tree S) ≤ room = omega (arith, counted, tree-length S) in
         given-query all
@@ -129,15 +130,15 @@ module _
           fits = h;
           held =
               subst (λ (n : ℕ). Held (tree S) (p .count) n addresses codes starts) (sym counted)
-              (subst (λ (k : ℕ). Held (tree S) k (startOf S (length (S .sequence))) addresses codes starts) (stops-long p)
+              (subst (λ (k : ℕ). Held (tree S) k (startOf S (length (S .sequence))) addresses codes starts) (stops-long (lists .include) p)
               (held S few cheap (layoutIn s) s addresses codes starts firsts lasts (is .examined) (is .worked)));
         }))
 
     -- told by its room
-    pub told-right : TreeResultIs (treeFor s exclude q room) room addresses codes starts (toldBy (ltb room (getD starts (p .count) 0)) (getD starts (p .count) 0) (p .count) (r .tally) (p .round))
+    pub told-right : TreeResultIs (treeFor s lists q room) room addresses codes starts (toldBy (ltb room (getD starts (p .count) 0)) (getD starts (p .count) 0) (p .count) (r .tally) (p .round))
     told-right = go (ltb room (getD starts (p .count) 0)) refl
       where
-        go : (b : Bool) → ltb room (getD starts (p .count) 0) ≡ b → TreeResultIs (treeFor s exclude q room) room addresses codes starts (toldBy b (getD starts (p .count) 0) (p .count) (r .tally) (p .round))
+        go : (b : Bool) → ltb room (getD starts (p .count) 0) ≡ b → TreeResultIs (treeFor s lists q room) room addresses codes starts (toldBy b (getD starts (p .count) 0) (p .count) (r .tally) (p .round))
         go true e = too-small (ltb-true room (getD starts (p .count) 0) e)
         go false e = enough (ltb-false room (getD starts (p .count) 0) e)
 

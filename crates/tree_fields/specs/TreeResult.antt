@@ -15,6 +15,7 @@ use Rattle.model.specs.Calls.{Outcome, roomVerdict, answerTree}
 use Rattle.model.specs.Profile.{layoutIn}
 use Rattle.model.specs.Request.{Search}
 use Rattle.model.specs.Tree.{tree}
+use Rattle.laws.specs.Lists.{Lists}
 use Rattle.request.specs.declared.Query.{Query}
 use Rattle.request.specs.Query.{searchFor, inRound, roundFor}
 use Rattle.tree_fields.specs.Fields.{level, address, mark, cost, markOf, costOf, levelsOf, Places}
@@ -32,9 +33,9 @@ toldBy false count places tally x = record { answer = Built count tally x; count
 abbrev pub treeOutcome : Round → Search → ℕ → Outcome TreeEntry
 treeOutcome x S room = answerTree (roomVerdict (length (tree S)) room) x S
 
-abbrev pub treeFor : List ℕ → List ℕ → Query → ℕ → Outcome TreeEntry
-treeFor profile exclude q room =
-    treeOutcome (roundFor (layoutIn profile) profile exclude q) (searchFor (layoutIn profile) profile exclude (inRound (roundFor (layoutIn profile) profile exclude q) q)) room
+abbrev pub treeFor : List ℕ → Lists → Query → ℕ → Outcome TreeEntry
+treeFor profile lists q room =
+    treeOutcome (roundFor (layoutIn profile) profile lists q) (searchFor (layoutIn profile) profile lists (inRound (roundFor (layoutIn profile) profile lists q) q)) room
 
 -- what the lists in numbers hold of the entries written, n of them at the start of each list
 pub record Held (written : List TreeEntry) (places n : ℕ) (addresses codes starts : List ℕ) : Type 0 where

@@ -19,6 +19,7 @@ ghost use lib.Dec.{ltb};
 ghost use lib.ListN.{length};
 ghost use Rattle.model.specs.Profile.{layoutIn};
 ghost use Rattle.model.specs.Calls.{buildTree};
+ghost use Rattle.laws.specs.Lists.{listsOf};
 ghost use Rattle.request.specs.CheckedRequest.{requestFor};
 ghost use Rattle.request.specs.Query.{Ready};
 ghost use Rattle.buffers.specs.Capacity.{least4};
@@ -68,6 +69,7 @@ fn told(count: usize, places: usize, tally: usize, round: Round, room: usize) ->
 // The tree of a query in the round that applies, and whether there is room for it.
 fn solve_query(
     profile: &[u8],
+    include: &[u8],
     exclude: &[u8],
     q: Query,
     room: usize,
@@ -75,9 +77,9 @@ fn solve_query(
     reaches: &mut [u32; 242],
     starts: &mut [usize; 18],
 ) -> TreeResult
-    requires { ⌜ Ready (layoutIn (now profile)) (now profile) (now exclude) q ⌝ }
+    requires { ⌜ Ready (layoutIn (now profile)) (now profile) (listsOf (now include) (now exclude)) q ⌝ }
     requires { ⌜ (length (now addresses) ≡ 242) × (length (now reaches) ≡ 242) × (length (now starts) ≡ 18) ⌝ }
-    ensures { λ r. ⌜ TreeResultIs (treeFor (now (profile .entry)) (now (exclude .entry)) q room) room (now (addresses .exit)) (now (reaches .exit)) (now (starts .exit)) r ⌝ }
+    ensures { λ r. ⌜ TreeResultIs (treeFor (now (profile .entry)) (listsOf (now (include .entry)) (now (exclude .entry))) q room) room (now (addresses .exit)) (now (reaches .exit)) (now (starts .exit)) r ⌝ }
 {
     let mut firsts = [0usize; 16];
     let mut lasts = [0usize; 16];
@@ -85,6 +87,7 @@ fn solve_query(
     let settled = settle(
         profile,
         layout,
+        include,
         exclude,
         q,
         addresses,
@@ -120,7 +123,16 @@ pub fn solve(
         return refused(r);
     }
     let q = checked.query;
-    solve_query(profile, exclude, q, room, addresses, reaches, starts)
+    solve_query(
+        profile,
+        include,
+        exclude,
+        q,
+        room,
+        addresses,
+        reaches,
+        starts,
+    )
 }
 
 // The tree's fields in four lent buffers. On a refusal they keep what they held.

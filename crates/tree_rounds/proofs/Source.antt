@@ -16,6 +16,7 @@ use Rattle.model.specs.Profile.{Layout, costLimit}
 use Rattle.model.specs.Request.{Search}
 use Rattle.model.specs.Path.{legs, keepsBound, paths, admissible, totalLimit}
 use Rattle.model.specs.Tree.{entriesAt}
+use Rattle.laws.specs.Lists.{Lists}
 use Rattle.laws.proofs.Tests.{decide}
 use Rattle.laws.proofs.AcceptedPaths.{accepted-costs}
 use Rattle.laws.specs.Reach.{reachFrom}
@@ -29,19 +30,19 @@ use Rattle.tree_vspt.specs.Tree.{codesFrom, TreeCodes}
 use Rattle.tree_vspt.proofs.Known.{code-is, cost-bound}
 use Rattle.tree_vspt.proofs.Sequences.{stops-long}
 
-module _ (L : Layout) (s exclude : List ℕ) (q : Query) (cheap : L .mostCost ≤ costLimit) (ready : Ready L s exclude q) where
+module _ (L : Layout) (s : List ℕ) (lists : Lists) (q : Query) (cheap : L .mostCost ≤ costLimit) (ready : Ready L s lists q) where
   abbrev S : Search
-  S = searchFor L s exclude q
+  S = searchFor L s lists q
 
   few : length (S .sequence) ≤ 16
-  few = omega (arith, stops-long q, ready .most)
+  few = omega (arith, stops-long (lists .include) q, ready .most)
 
   costs : (h : Hop) → List·Memᴰ h (S .hops) → h .cost ≤ costLimit
   costs h m = omega (arith, accepted-costs L s (ready .profile-right) h m)
 
   source-alone : nodesAt S 0 ≡ S .source ∷ []
   unfolding nodesAt entriesAt
-  source-alone = ap (λ (b : Bool). nodesIf b S 0) (lt-ltb 0 (length (S .sequence)) (omega (arith, stops-long q, ready .some-domain)))
+  source-alone = ap (λ (b : Bool). nodesIf b S 0) (lt-ltb 0 (length (S .sequence)) (omega (arith, stops-long (lists .include) q, ready .some-domain)))
 
   -- the first of all numbers is the source's
   pub source-number : (codes : List ℕ) → TreeCodes S codes → getD codes 0 0 ≡ codeAt S 0 (S .source)

@@ -8,9 +8,8 @@ use native.Mathlib.Nat.{sub-zero}
 use native.Mathlib.Omega.{arith}
 use lib.ListN.{length, take, drop}
 use lib.Seq.{slice, paste, drop-paste, drop-drop, length-paste, take-nil, drop-nil}
-use Rattle.model.specs.declared.Round.{Round}
-use Rattle.model.specs.Subobject.{subobjects}
-use Rattle.model.specs.Exclusion.{inForce, excludedNode}
+use Rattle.model.specs.Subobject.{Subobject}
+use Rattle.model.specs.Exclusion.{excludedNode}
 use Rattle.model.specs.Path.{keepsPin}
 use Rattle.model.specs.WrittenList.{pinIf}
 use Rattle.laws.proofs.Tests.{and-none, and-all}
@@ -21,28 +20,28 @@ pub pin-some : (m n : ℕ) → (m ≡ 0 → ⊥) → pinIf m n ≡ some n
 pin-some zero n h = absurd (h refl)
 pin-some (suc m) n h = refl
 
-module _ (x : Round) (exclude : List ℕ) (excluded : Bool) (pinned pin a : ℕ) where
+module _ (exclusions : List Subobject) (excluded : Bool) (pinned pin a : ℕ) where
   -- the domain is excluded
-  pub domain-excluded : excluded ≡ true → false ≡ allowedBy x exclude excluded pinned pin a
+  pub domain-excluded : excluded ≡ true → false ≡ allowedBy exclusions excluded pinned pin a
   domain-excluded t =
-      and-none (not (excludedNode (inForce x (subobjects exclude)) a))
-      ∙ sym (ap (λ (b : Bool). not (excludedNode (inForce x (subobjects exclude)) a) && (not b && keepsPin (pinIf pinned pin) a)) t)
+      and-none (not (excludedNode exclusions a))
+      ∙ sym (ap (λ (b : Bool). not (excludedNode exclusions a) && (not b && keepsPin (pinIf pinned pin) a)) t)
 
   -- the entry constraint is not kept
-  pub pin-broken : excluded ≡ false → keepsPin (pinIf pinned pin) a ≡ false → false ≡ allowedBy x exclude excluded pinned pin a
+  pub pin-broken : excluded ≡ false → keepsPin (pinIf pinned pin) a ≡ false → false ≡ allowedBy exclusions excluded pinned pin a
   pin-broken o f =
-      and-none (not (excludedNode (inForce x (subobjects exclude)) a))
+      and-none (not (excludedNode exclusions a))
       ∙ sym
-      (ap (λ (b : Bool). not (excludedNode (inForce x (subobjects exclude)) a) && (not b && keepsPin (pinIf pinned pin) a)) o
-      ∙ ap (λ (b : Bool). not (excludedNode (inForce x (subobjects exclude)) a) && b) f)
+      (ap (λ (b : Bool). not (excludedNode exclusions a) && (not b && keepsPin (pinIf pinned pin) a)) o
+      ∙ ap (λ (b : Bool). not (excludedNode exclusions a) && b) f)
 
   -- what is left is the node itself
-  pub node-decides : excluded ≡ false → keepsPin (pinIf pinned pin) a ≡ true → not (excludedNode (inForce x (subobjects exclude)) a) ≡ allowedBy x exclude excluded pinned pin a
+  pub node-decides : excluded ≡ false → keepsPin (pinIf pinned pin) a ≡ true → not (excludedNode exclusions a) ≡ allowedBy exclusions excluded pinned pin a
   node-decides o t =
-      and-all (not (excludedNode (inForce x (subobjects exclude)) a))
+      and-all (not (excludedNode exclusions a))
       ∙ sym
-      (ap (λ (b : Bool). not (excludedNode (inForce x (subobjects exclude)) a) && (not b && keepsPin (pinIf pinned pin) a)) o
-      ∙ ap (λ (b : Bool). not (excludedNode (inForce x (subobjects exclude)) a) && b) t)
+      (ap (λ (b : Bool). not (excludedNode exclusions a) && (not b && keepsPin (pinIf pinned pin) a)) o
+      ∙ ap (λ (b : Bool). not (excludedNode exclusions a) && b) t)
 
 -- ---- a part behind what is written stays
 

@@ -9,10 +9,10 @@ use lib.ListN.{length, getD, set, length-map}
 use lib.Seq.{slice, paste, length-paste}
 use Rattle.model.specs.declared.Hop.{Hop}
 use Rattle.model.specs.Profile.{Layout, hops, costLimit}
-use Rattle.model.specs.Subobject.{subobjects}
+use Rattle.model.specs.Subobject.{Subobject, subobjects}
 use Rattle.model.specs.Exclusion.{inForce, excludedNode}
-use Rattle.model.specs.Request.{Search, allExclusions}
-use Rattle.model.specs.Path.{exclusionsAt}
+use Rattle.model.specs.Request.{Search}
+use Rattle.laws.specs.Lists.{Lists}
 use Rattle.laws.proofs.AcceptedPaths.{accepted-costs}
 use Rattle.tree_levels.specs.Levels.{nodesAt, startOf}
 use Rattle.tree_levels.proofs.Blocks.{place-nodes}
@@ -27,23 +27,23 @@ use Rattle.tree_vspt.proofs.Filled.{level-long, starts-later, end-nodes
 use Rattle.tree_vspt.proofs.Known.{end-code}
 use Rattle.tree_vspt.proofs.Next.{next-place-of}
 use Rattle.tree_vspt.proofs.LevelIs.{level-codes-is}
-use Rattle.tree_vspt.proofs.Sequences.{stops-long}
+use Rattle.tree_vspt.proofs.Sequences.{stops-long, end-exclusions}
 
 module _
-    (L : Layout) (s exclude : List ℕ) (q : Query) (most : L .mostCost ≤ costLimit) (ready : Ready L s exclude q)
-    (addresses starts firsts lasts : List ℕ) (out : LaidOutFor L s exclude q addresses starts firsts lasts)
+    (L : Layout) (s : List ℕ) (lists : Lists) (q : Query) (most : L .mostCost ≤ costLimit) (ready : Ready L s lists q)
+    (addresses starts firsts lasts : List ℕ) (out : LaidOutFor L s lists q addresses starts firsts lasts)
   where
     abbrev S : Search
-    S = searchFor L s exclude q
+    S = searchFor L s lists q
 
     few : length (S .sequence) ≤ 16
-    few = omega (arith, stops-long q, ready .most)
+    few = omega (arith, stops-long (lists .include) q, ready .most)
 
     cheap : (h : Hop) → List·Memᴰ h (S .hops) → h .cost ≤ costLimit
     cheap h m = let k = accepted-costs L s (ready .profile-right) h m in omega arith
 
     pub starts-by : (i : ℕ) → i ≤ suc (q .count) → startOf S i ≤ 242
-    starts-by i h = omega (arith, out .laid .fits, starts-later S i (suc (length (S .sequence))) (omega (arith, stops-long q)))
+    starts-by i h = omega (arith, out .laid .fits, starts-later S i (suc (length (S .sequence))) (omega (arith, stops-long (lists .include) q)))
 
     later : (i : ℕ) → startOf S i ≤ startOf S (suc i)
     later i = omega (arith, level-long S i)
@@ -52,35 +52,38 @@ module _
 
     pub end-inside : (i : ℕ) → i ≡ q .count → getD starts i 0 < 242
     end-inside i e =
-        let at = out .laid .starts-are i (omega (arith, stops-long q)) in
-        let nodes = ap length (end-nodes S i (e ∙ sym (stops-long q))) in
+        let at = out .laid .starts-are i (omega (arith, stops-long (lists .include) q)) in
+        let nodes = ap length (end-nodes S i (e ∙ sym (stops-long (lists .include) q))) in
         let m = length-map (nodesAt S i) (codeAt S i) in
         let next = level-long S i in
         omega (arith, starts-by (suc i) (omega arith))
 
     pub filled-last
         : (i : ℕ) (d : List ℕ) (value : ℕ) → i ≡ q .count → length d ≡ 242
-        → value ≡ codeIf (not (excludedNode (inForce (q .round) (subobjects exclude)) (q .destination .0))) 0
+        → value ≡ codeIf (not (excludedNode (inForce (q .round) (subobjects (lists .exclude))) (q .destination .0))) 0
         → set d (getD starts i 0) value ≡ filledFrom S i 1 d
-    unfolding exclusionsAt allExclusions
     filled-last i d value e long v =
-        let n : i ≡ length (S .sequence) = e ∙ sym (stops-long q) in
-        let at = out .laid .starts-are i (omega (arith, stops-long q)) in
-        ap₂ (set d) at (v ∙ sym (end-code S few cheap) ∙ ap (λ (k : ℕ). codeAt S k (S .destination)) (sym n))
+        let n : i ≡ length (S .sequence) = e ∙ sym (stops-long (lists .include) q) in
+        let at = out .laid .starts-are i (omega (arith, stops-long (lists .include) q)) in
+        ap₂ (set d) at
+        (v
+        ∙ ap (λ (xs : List Subobject). codeIf (not (excludedNode xs (q .destination .0))) 0) (sym (end-exclusions L s lists q))
+        ∙ sym (end-code S few cheap)
+        ∙ ap (λ (k : ℕ). codeAt S k (S .destination)) (sym n))
         ∙ filled-end S i d n (omega (arith, end-inside i e))
 
     -- ---- one place, from the one after it
 
-    module _ (i : ℕ) (h : i < q .count) (mid : List ℕ) (long : length mid ≡ 242) (holds : Holds S (suc i) mid) (leg : Leg) (is : LegIs S (q .round) i leg) where
+    module _ (i : ℕ) (h : i < q .count) (mid : List ℕ) (long : length mid ≡ 242) (holds : Holds S (suc i) mid) (leg : Leg) (is : LegIs S lists i leg) where
       here-nodes : slice (leg .start) (leg .next) addresses ≡ nodesAt S i
       here-nodes =
           (λ j. slice (is .start-is j) (is .next-is j) addresses)
-          ∙ place-nodes S L s addresses starts firsts lasts (out .examined) (out .laid) i (omega (arith, stops-long q))
+          ∙ place-nodes S L s addresses starts firsts lasts (out .examined) (out .laid) i (omega (arith, stops-long (lists .include) q))
 
       next-nodes : slice (leg .next) (leg .end) addresses ≡ nodesAt S (suc i)
       next-nodes =
           (λ j. slice (is .next-is j) (is .end-is j) addresses)
-          ∙ place-nodes S L s addresses starts firsts lasts (out .examined) (out .laid) (suc i) (omega (arith, stops-long q))
+          ∙ place-nodes S L s addresses starts firsts lasts (out .examined) (out .laid) (suc i) (omega (arith, stops-long (lists .include) q))
 
       known : slice (leg .next) (leg .end) mid ≡ map (codeAt S (suc i)) (nodesAt S (suc i))
       known = (λ j. slice (is .next-is j) (is .end-is j) mid) ∙ holds
@@ -91,15 +94,14 @@ module _
       pub next-place : NextPlace addresses mid (leg .next) (leg .end)
       next-place =
           subst₂ (NextPlace addresses mid) (sym (is .next-is)) (sym (is .end-is))
-          (next-place-of S L s addresses starts firsts lasts (out .examined) (out .laid) (suc i) (omega (arith, stops-long q)) few cheap mid
+          (next-place-of S L s addresses starts firsts lasts (out .examined) (out .laid) (suc i) (omega (arith, stops-long (lists .include) q)) few cheap mid
           (omega (arith, starts-by (suc (suc i)) (omega arith))) holds)
 
       pub placed
-          : (exit : List ℕ) → exit ≡ paste mid (leg .start) (levelCodes L s exclude leg (q .limits .bandwidth) addresses mid) (leg .next - leg .start)
+          : (exit : List ℕ) → exit ≡ paste mid (leg .start) (levelCodes L s lists leg (q .limits .bandwidth) addresses mid) (leg .next - leg .start)
           → exit ≡ filledAt S i mid
-      unfolding exclusionsAt allExclusions
       placed exit e =
-          let codes = level-codes-is S (q .round) L s exclude few cheap refl i refl (omega (arith, stops-long q)) leg is addresses mid here-nodes next-nodes known in
+          let codes = level-codes-is S L s lists few cheap refl i (omega (arith, stops-long (lists .include) q)) leg is addresses mid here-nodes next-nodes known in
           let count : leg .next - leg .start ≡ length (map (codeAt S i) (nodesAt S i)) = let a = is .start-is in let b = is .next-is in omega (arith, level-long S i) in
           e ∙ (λ j. paste mid (is .start-is j) (codes j) (count j))
 
@@ -122,7 +124,7 @@ module _
       pub written-stands : HoldsFrom S (suc i) mid
       written-stands =
           subst (HoldsFrom S (suc i)) (sym written)
-          (filled-holds S (suc i) (suc m) d (omega (arith, stops-long q)) (omega (arith, starts-by (suc i) (omega arith))))
+          (filled-holds S (suc i) (suc m) d (omega (arith, stops-long (lists .include) q)) (omega (arith, starts-by (suc i) (omega arith))))
 
       pub filled-step : (exit : List ℕ) → exit ≡ filledAt S i mid → exit ≡ filledFrom S i (suc (suc m)) d
       filled-step exit e = e ∙ ap (filledAt S i) written ∙ filled-more S i (suc m) d (omega (arith, starts-by (suc i) (omega arith)))
@@ -137,11 +139,11 @@ module _
       from-next = subst (λ (k : ℕ). HoldsFrom S k d) (sym e) stands
 
       pub stands-next : Holds S (suc i) d
-      stands-next = holds-first S (suc i) d (omega (arith, stops-long q)) from-next
+      stands-next = holds-first S (suc i) d (omega (arith, stops-long (lists .include) q)) from-next
 
       pub stands-more : (mid : List ℕ) → mid ≡ filledAt S i d → HoldsFrom S i mid
       stands-more mid w =
-          subst (HoldsFrom S i) (sym w) (holds-more S i d (omega (arith, stops-long q)) (omega (arith, starts-by i (omega arith))) from-next)
+          subst (HoldsFrom S i) (sym w) (holds-more S i d (omega (arith, stops-long (lists .include) q)) (omega (arith, starts-by i (omega arith))) from-next)
 
       pub filled-from : (mid exit : List ℕ) → mid ≡ filledAt S i d → exit ≡ filledFrom S 0 i mid → exit ≡ filledFrom S 0 n d
       filled-from mid exit w f =

@@ -18,6 +18,7 @@ use Rattle.model.specs.Request.{Search}
 use Rattle.model.specs.Path.{legAt, exclusionsAt, nodeExcludedAt, keepsPin, placeAllows, allowed, leaves, hopsFrom}
 use Rattle.model.specs.Tree.{suffixesAt}
 use Rattle.model.specs.WrittenList.{pinIf}
+use Rattle.laws.specs.Lists.{Lists}
 use Rattle.laws.specs.Reach.{unreached, leastFrom, reachIf, via, bestFrom}
 use Rattle.laws.proofs.Reach.{bestFrom-agree, bestFrom-keep}
 use Rattle.laws.proofs.TreeLeast.{place-step}
@@ -26,18 +27,17 @@ use Rattle.tree_levels.specs.Levels.{nodesAt}
 use Rattle.tree_step.specs.declared.Leg.{Leg}
 use Rattle.tree_vspt.specs.Leg.{LegIs}
 use Rattle.tree_reaches.specs.Reaches.{codeOf, reachOf, codeAt, beside, wayOn}
-use Rattle.tree_step.specs.Step.{allowedBy, entryReach, entryCode, levelCodes}
+use Rattle.tree_step.specs.Step.{legExclusions, allowedBy, entryReach, entryCode, levelCodes}
 use Rattle.tree_vspt.proofs.Known.{code-is, head-known}
 
 module _
-    (S : Search) (x : Round) (L : Layout) (s exclude : List ℕ) (few : length (S .sequence) ≤ 16) (cheap : (h : Hop) → List·Memᴰ h (S .hops) → h .cost ≤ costLimit)
-    (hops-are : S .hops ≡ hops L s) (i : ℕ) (exclusions-are : exclusionsAt S i ≡ inForce x (subobjects exclude)) (k : i < length (S .sequence)) (leg : Leg) (is : LegIs S x i leg)
+    (S : Search) (L : Layout) (s : List ℕ) (lists : Lists) (few : length (S .sequence) ≤ 16) (cheap : (h : Hop) → List·Memᴰ h (S .hops) → h .cost ≤ costLimit)
+    (hops-are : S .hops ≡ hops L s) (i : ℕ) (k : i < length (S .sequence)) (leg : Leg) (is : LegIs S lists i leg)
   where
-    tests : (a : ℕ) → allowedBy (leg .round) exclude (leg .excluded) (leg .pinned) (leg .pin .0) a ≡ allowed S i a
+    tests : (a : ℕ) → allowedBy (legExclusions lists leg) (leg .excluded) (leg .pinned) (leg .pin .0) a ≡ allowed S i a
     unfolding allowed
     tests a =
-        (λ j. not (excludedNode (inForce (is .round-is j) (subobjects exclude)) a) && (not (leg .excluded) && keepsPin (pinIf (leg .pinned) (leg .pin .0)) a))
-        ∙ (λ j. not (excludedNode (sym exclusions-are j) a) && (not (is .excluded-is j) && keepsPin (is .pin-is j) a))
+        (λ j. not (excludedNode (is .exclusions-are j) a) && (not (is .excluded-is j) && keepsPin (is .pin-is j) a))
         ∙ sym (ap (λ (b : Bool). not (nodeExcludedAt S i a) && placeAllows b S i a) (lt-ltb i (length (S .sequence)) k))
 
     abbrev pub nodes : List ℕ
@@ -65,7 +65,7 @@ module _
         go false e t u = refl
 
     -- the entry's reach is the one of the tree
-    pub entry-reach-is : (a : ℕ) → entryReach L s exclude leg (S .limits .bandwidth) nodes codes a ≡ leastFrom (suffixesAt S i a)
+    pub entry-reach-is : (a : ℕ) → entryReach L s lists leg (S .limits .bandwidth) nodes codes a ≡ leastFrom (suffixesAt S i a)
     unfolding hopsFrom
     entry-reach-is a =
         ap₂ reachIf (tests a)
@@ -75,7 +75,7 @@ module _
         ∙ sym (bestFrom-keep unreached (leaves S (legAt S i) a) (λ (h : Hop). via (h .cost) (leastFrom (suffixesAt S (suc i) (h .head .0)))) (S .hops)))
         ∙ sym (place-step S i a k)
 
-    pub entry-code-is : (a : ℕ) → entryCode L s exclude leg (S .limits .bandwidth) nodes codes a ≡ codeAt S i a
+    pub entry-code-is : (a : ℕ) → entryCode L s lists leg (S .limits .bandwidth) nodes codes a ≡ codeAt S i a
     entry-code-is a = ap codeOf (entry-reach-is a) ∙ sym (code-is S few cheap i a)
 
     -- so the step's numbers are those of the place, over lists that hold the addresses and the next place's numbers
@@ -84,7 +84,7 @@ module _
         → slice (leg .start) (leg .next) addresses ≡ nodesAt S i
         → slice (leg .next) (leg .end) addresses ≡ nodes
         → slice (leg .next) (leg .end) ns ≡ codes
-        → levelCodes L s exclude leg (S .limits .bandwidth) addresses ns ≡ map (codeAt S i) (nodesAt S i)
+        → levelCodes L s lists leg (S .limits .bandwidth) addresses ns ≡ map (codeAt S i) (nodesAt S i)
     level-codes-is addresses ns here next known =
-        (λ j. map (entryCode L s exclude leg (S .limits .bandwidth) (next j) (known j)) (here j))
+        (λ j. map (entryCode L s lists leg (S .limits .bandwidth) (next j) (known j)) (here j))
         ∙ (λ j. map (λ (a : ℕ). entry-code-is a j) (nodesAt S i))

@@ -7,6 +7,7 @@ use lib.Seq.{slice, paste}
 use Rattle.model.specs.Lists.{countFrom, each}
 use Rattle.model.specs.Request.{Search}
 use Rattle.model.specs.Profile.{Layout}
+use Rattle.laws.specs.Lists.{Lists}
 use Rattle.tree_levels.specs.Levels.{nodesAt, startOf, LaidOut}
 use Rattle.request.specs.declared.Query.{Query}
 use Rattle.request.specs.Query.{searchFor}
@@ -32,9 +33,9 @@ abbrev pub HoldsFrom : Search → ℕ → List ℕ → Type 0
 HoldsFrom S i codes = slice (startOf S i) (startOf S (suc (length (S .sequence)))) codes ≡ codesFrom S i (suc (length (S .sequence)) - i)
 
 -- what is laid out for a query
-pub record LaidOutFor (L : Layout) (s exclude : List ℕ) (q : Query) (addresses starts firsts lasts : List ℕ) : Type 0 where
+pub record LaidOutFor (L : Layout) (s : List ℕ) (lists : Lists) (q : Query) (addresses starts firsts lasts : List ℕ) : Type 0 where
   pub examined : ℕ
-  pub laid : LaidOut (searchFor L s exclude q) L s addresses starts firsts lasts examined
+  pub laid : LaidOut (searchFor L s lists q) L s addresses starts firsts lasts examined
 
 -- the numbers of all places stand at the start of a list
 abbrev pub TreeCodes : Search → List ℕ → Type 0

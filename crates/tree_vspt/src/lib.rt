@@ -1,6 +1,7 @@
 // The backward tree (RFC 5441's virtual shortest path tree): how each entry reaches the destination, from the last domain to the first.
-use list_exclusion::excludes_domain;
 use list_exclusion::excludes_node;
+use list_exclusion::exrs::first_exrs;
+use list_exclusion::place::excludes_domain_there;
 use model::DomainIndex;
 use model::NodeAddress;
 use model::Round;
@@ -20,10 +21,12 @@ ghost use Rattle.model.specs.declared.ListKind.the-variants.{Exclude};
 ghost use Rattle.model.specs.declared.Verdict.the-variants.{Pass};
 ghost use Rattle.model.specs.Exclusion.{inForce, excludedNode};
 ghost use Rattle.model.specs.Subobject.{formVerdict, subobjects};
+ghost use Rattle.laws.specs.Lists.{listsOf};
 ghost use Rattle.profile_records.specs.Layout.{layoutOf, SoundLayout};
 ghost use Rattle.tree_levels.specs.Levels.{LaidOut};
 ghost use Rattle.request.specs.Query.{searchFor, Ready};
 ghost use Rattle.tree_reaches.specs.Reaches.{codeIf};
+ghost use Rattle.laws.specs.Stops.{stretchStart};
 ghost use Rattle.tree_vspt.specs.Leg.{nextPlace, LegFor};
 ghost use Rattle.tree_vspt.specs.Tree.{Holds, HoldsFrom, filledAt, filledFrom, LaidOutFor, TreeCodes};
 
@@ -50,10 +53,22 @@ pub fn next_domain(domains: [DomainIndex; 16], count: usize, i: usize) -> Domain
     domains[i]
 }
 
-// The leg from place i of the sequence. Whether its domain is excluded in the round is asked here, once for all its entries.
+// Where in the include list the EXRS of domain i of a sequence start to stand: behind the subobject that named the one before it.
+fn stretch_start(named: [u16; 16], i: usize) -> usize
+    requires { ⌜ (length named ≡ 16) × (i < 16) ⌝ }
+    ensures { λ r. ⌜ r ≡ stretchStart named i ⌝ }
+{
+    if i == 0 {
+        return 0;
+    }
+    named[i - 1] as usize
+}
+
+// The leg from place i of the sequence. Whether its domain is excluded in the round, and whether it has EXRS at all, is asked here, once for all its entries.
 fn leg_at(
     s: &[u8],
     layout: Layout,
+    include: &[u8],
     exclude: &[u8],
     q: Query,
     i: usize,
@@ -61,8 +76,8 @@ fn leg_at(
     firsts: &[usize; 16],
     lasts: &[usize; 16],
 ) -> Leg
-    requires { ⌜ Ready (layoutOf layout) (now s) (now exclude) q × (i < q .count) ⌝ }
-    ensures { λ r. ⌜ ((addresses : List ℕ) (tally : ℕ) → LaidOut (searchFor (layoutOf layout) (now (s .entry)) (now (exclude .entry)) q) (layoutOf layout) (now (s .entry)) addresses (now (starts .entry)) (now (firsts .entry)) (now (lasts .entry)) tally → LegFor (layoutOf layout) (now (s .entry)) (searchFor (layoutOf layout) (now (s .entry)) (now (exclude .entry)) q) (q .round) i r) ⌝ }
+    requires { ⌜ Ready (layoutOf layout) (now s) (listsOf (now include) (now exclude)) q × (i < q .count) ⌝ }
+    ensures { λ r. ⌜ ((addresses : List ℕ) (tally : ℕ) → LaidOut (searchFor (layoutOf layout) (now (s .entry)) (listsOf (now (include .entry)) (now (exclude .entry))) q) (layoutOf layout) (now (s .entry)) addresses (now (starts .entry)) (now (firsts .entry)) (now (lasts .entry)) tally → LegFor (layoutOf layout) (now (s .entry)) (searchFor (layoutOf layout) (now (s .entry)) (listsOf (now (include .entry)) (now (exclude .entry))) q) (listsOf (now (include .entry)) (now (exclude .entry))) i r) ⌝ }
 {
     let domains = q.domains;
     let pinned = q.pinned;
@@ -71,7 +86,10 @@ fn leg_at(
     let to = next_domain(domains, q.count, i);
     let d = domain_at(s, from.0 as usize);
     let round = q.round;
-    let excluded = excludes_domain(exclude, round, d);
+    let named = q.named;
+    let end = named[i] as usize;
+    let exrs = first_exrs(include, stretch_start(named, i), end);
+    let excluded = excludes_domain_there(include, exclude, exrs, end, round, d);
     Leg {
         from,
         to,
@@ -83,6 +101,8 @@ fn leg_at(
         excluded,
         pinned: pinned[i],
         pin: pins[i],
+        exrs,
+        named: end,
         start: starts[i],
         next: starts[i + 1],
         end: starts[i + 2],
@@ -93,6 +113,7 @@ fn leg_at(
 fn fill_place(
     s: &[u8],
     layout: Layout,
+    include: &[u8],
     exclude: &[u8],
     q: Query,
     i: usize,
@@ -102,20 +123,21 @@ fn fill_place(
     lasts: &[usize; 16],
     reaches: &mut [u32],
 )
-    requires { ⌜ SoundLayout (layoutOf layout) × Ready (layoutOf layout) (now s) (now exclude) q × (i < q .count) ⌝ }
-    requires { ⌜ LaidOutFor (layoutOf layout) (now s) (now exclude) q (now addresses) (now starts) (now firsts) (now lasts) × (length (now reaches) ≡ 242) ⌝ }
-    requires { ⌜ Holds (searchFor (layoutOf layout) (now s) (now exclude) q) (suc i) (now reaches) ⌝ }
-    ensures { λ _. ⌜ now (reaches .exit) ≡ filledAt (searchFor (layoutOf layout) (now (s .entry)) (now (exclude .entry)) q) i (now (reaches .entry)) ⌝ }
+    requires { ⌜ SoundLayout (layoutOf layout) × Ready (layoutOf layout) (now s) (listsOf (now include) (now exclude)) q × (i < q .count) ⌝ }
+    requires { ⌜ LaidOutFor (layoutOf layout) (now s) (listsOf (now include) (now exclude)) q (now addresses) (now starts) (now firsts) (now lasts) × (length (now reaches) ≡ 242) ⌝ }
+    requires { ⌜ Holds (searchFor (layoutOf layout) (now s) (listsOf (now include) (now exclude)) q) (suc i) (now reaches) ⌝ }
+    ensures { λ _. ⌜ now (reaches .exit) ≡ filledAt (searchFor (layoutOf layout) (now (s .entry)) (listsOf (now (include .entry)) (now (exclude .entry))) q) i (now (reaches .entry)) ⌝ }
 {
-    let leg = leg_at(s, layout, exclude, q, i, starts, firsts, lasts);
+    let leg = leg_at(s, layout, include, exclude, q, i, starts, firsts, lasts);
     let asked = q.limits.bandwidth;
-    fill_level(s, layout, exclude, leg, asked, addresses, reaches);
+    fill_level(s, layout, include, exclude, leg, asked, addresses, reaches);
 }
 
 // The reaches of the places from i on, `left` domains and the end behind them: the last first, each from the one after it.
 fn fill_from(
     s: &[u8],
     layout: Layout,
+    include: &[u8],
     exclude: &[u8],
     q: Query,
     i: usize,
@@ -126,9 +148,9 @@ fn fill_from(
     lasts: &[usize; 16],
     reaches: &mut [u32],
 )
-    requires { ⌜ SoundLayout (layoutOf layout) × Ready (layoutOf layout) (now s) (now exclude) q × (i + left ≡ q .count) ⌝ }
-    requires { ⌜ LaidOutFor (layoutOf layout) (now s) (now exclude) q (now addresses) (now starts) (now firsts) (now lasts) × (length (now reaches) ≡ 242) ⌝ }
-    ensures { λ _. ⌜ now (reaches .exit) ≡ filledFrom (searchFor (layoutOf layout) (now (s .entry)) (now (exclude .entry)) q) i (suc left) (now (reaches .entry)) ⌝ }
+    requires { ⌜ SoundLayout (layoutOf layout) × Ready (layoutOf layout) (now s) (listsOf (now include) (now exclude)) q × (i + left ≡ q .count) ⌝ }
+    requires { ⌜ LaidOutFor (layoutOf layout) (now s) (listsOf (now include) (now exclude)) q (now addresses) (now starts) (now firsts) (now lasts) × (length (now reaches) ≡ 242) ⌝ }
+    ensures { λ _. ⌜ now (reaches .exit) ≡ filledFrom (searchFor (layoutOf layout) (now (s .entry)) (listsOf (now (include .entry)) (now (exclude .entry))) q) i (suc left) (now (reaches .entry)) ⌝ }
 {
     if left == 0 {
         let at = starts[i];
@@ -140,6 +162,7 @@ fn fill_from(
     fill_from(
         s,
         layout,
+        include,
         exclude,
         q,
         i + 1,
@@ -153,6 +176,7 @@ fn fill_from(
     fill_place(
         s,
         layout,
+        include,
         exclude,
         q,
         i,
@@ -168,6 +192,7 @@ fn fill_from(
 pub fn fill_before(
     s: &[u8],
     layout: Layout,
+    include: &[u8],
     exclude: &[u8],
     q: Query,
     n: usize,
@@ -177,10 +202,10 @@ pub fn fill_before(
     lasts: &[usize; 16],
     reaches: &mut [u32],
 )
-    requires { ⌜ SoundLayout (layoutOf layout) × Ready (layoutOf layout) (now s) (now exclude) q × (n ≤ q .count) ⌝ }
-    requires { ⌜ LaidOutFor (layoutOf layout) (now s) (now exclude) q (now addresses) (now starts) (now firsts) (now lasts) × (length (now reaches) ≡ 242) ⌝ }
-    requires { ⌜ HoldsFrom (searchFor (layoutOf layout) (now s) (now exclude) q) n (now reaches) ⌝ }
-    ensures { λ _. ⌜ (now (reaches .exit) ≡ filledFrom (searchFor (layoutOf layout) (now (s .entry)) (now (exclude .entry)) q) 0 n (now (reaches .entry))) × TreeCodes (searchFor (layoutOf layout) (now (s .entry)) (now (exclude .entry)) q) (now (reaches .exit)) ⌝ }
+    requires { ⌜ SoundLayout (layoutOf layout) × Ready (layoutOf layout) (now s) (listsOf (now include) (now exclude)) q × (n ≤ q .count) ⌝ }
+    requires { ⌜ LaidOutFor (layoutOf layout) (now s) (listsOf (now include) (now exclude)) q (now addresses) (now starts) (now firsts) (now lasts) × (length (now reaches) ≡ 242) ⌝ }
+    requires { ⌜ HoldsFrom (searchFor (layoutOf layout) (now s) (listsOf (now include) (now exclude)) q) n (now reaches) ⌝ }
+    ensures { λ _. ⌜ (now (reaches .exit) ≡ filledFrom (searchFor (layoutOf layout) (now (s .entry)) (listsOf (now (include .entry)) (now (exclude .entry))) q) 0 n (now (reaches .entry))) × TreeCodes (searchFor (layoutOf layout) (now (s .entry)) (listsOf (now (include .entry)) (now (exclude .entry))) q) (now (reaches .exit)) ⌝ }
 {
     if n == 0 {
         return;
@@ -189,6 +214,7 @@ pub fn fill_before(
     fill_place(
         s,
         layout,
+        include,
         exclude,
         q,
         i,
@@ -201,6 +227,7 @@ pub fn fill_before(
     fill_before(
         s,
         layout,
+        include,
         exclude,
         q,
         i,
@@ -217,6 +244,7 @@ pub fn fill_before(
 pub fn fill_tree(
     s: &[u8],
     layout: Layout,
+    include: &[u8],
     exclude: &[u8],
     q: Query,
     addresses: &[u32; 242],
@@ -225,14 +253,15 @@ pub fn fill_tree(
     lasts: &[usize; 16],
     reaches: &mut [u32; 242],
 )
-    requires { ⌜ SoundLayout (layoutOf layout) × Ready (layoutOf layout) (now s) (now exclude) q ⌝ }
-    requires { ⌜ LaidOutFor (layoutOf layout) (now s) (now exclude) q (now addresses) (now starts) (now firsts) (now lasts) × (length (now reaches) ≡ 242) ⌝ }
-    ensures { λ _. ⌜ TreeCodes (searchFor (layoutOf layout) (now (s .entry)) (now (exclude .entry)) q) (now (reaches .exit)) × (length (now (reaches .exit)) ≡ 242) ⌝ }
+    requires { ⌜ SoundLayout (layoutOf layout) × Ready (layoutOf layout) (now s) (listsOf (now include) (now exclude)) q ⌝ }
+    requires { ⌜ LaidOutFor (layoutOf layout) (now s) (listsOf (now include) (now exclude)) q (now addresses) (now starts) (now firsts) (now lasts) × (length (now reaches) ≡ 242) ⌝ }
+    ensures { λ _. ⌜ TreeCodes (searchFor (layoutOf layout) (now (s .entry)) (listsOf (now (include .entry)) (now (exclude .entry))) q) (now (reaches .exit)) × (length (now (reaches .exit)) ≡ 242) ⌝ }
 {
     let count = q.count;
     fill_from(
         s,
         layout,
+        include,
         exclude,
         q,
         1,
@@ -246,6 +275,7 @@ pub fn fill_tree(
     fill_before(
         s,
         layout,
+        include,
         exclude,
         q,
         1,

@@ -2,10 +2,13 @@
 //! limits allow. Both have a sequence of 16 domains to cross.
 
 use super::draft::{domain_record, hop_record, Draft, Hops};
-use super::lists::write_route;
+use super::lists::{address_piece, write_route, Piece};
 use super::random::Random;
 use super::requests::RequestCase;
+use crate::check::check;
 use crate::profile::{hop_of, Hop, IS_IS, OSPF};
+use crate::sequence::Stop;
+use crate::writer;
 
 /// Where the paths through both profiles start and end.
 const SOURCE: u32 = 0xC000_0201;
@@ -121,6 +124,45 @@ pub fn equal_paths() -> Draft {
         domains,
         hops: hops.records(),
     }
+}
+
+/// The request that crosses all 16 domains of the largest profile, with an EXRS
+/// for each but the first: 1,024 bytes in all. They speak of what the profile
+/// lacks, so that each entry is held against all of its EXRS; for two rounds the
+/// first of them also desires away all entry nodes of the second domain, which a
+/// tree worked out from the last domain on meets last but one.
+pub fn with_exrs(draft: &Draft, rounds: u32) -> RequestCase {
+    let mut case = crossing_request(draft);
+    let exrs: Vec<Piece> = (0..16).map(|i| lacked_exrs(i, rounds)).collect();
+    let stop = |i: usize| Stop {
+        domain: i,
+        entry: None,
+        exrs: exrs[i..i + usize::from(i > 0)]
+            .iter()
+            .map(Vec::as_slice)
+            .collect(),
+    };
+    let stops: Vec<Stop> = (0..16).map(stop).collect();
+    let profile = check(&case.profile).expect("it is accepted");
+    case.include = writer::write(&profile, &stops).expect("it fits");
+    assert_eq!(case.include.len(), 1_024);
+    case
+}
+
+/// The EXRS of domain `i`: 48 bytes, in the first two 56.
+fn lacked_exrs(i: usize, rounds: u32) -> Piece {
+    let nodes = if i < 3 { 6 } else { 5 };
+    // 203.0.113.0/24 and AS 1 are nowhere in the profile.
+    let node = |j: usize| address_piece(0xCB00_7100 + (8 * i + j) as u32, 32, 1);
+    let mut inside: Vec<Piece> = (0..nodes).map(node).collect();
+    inside.push(vec![32, 4, 0, 1]);
+    if (i, rounds) == (1, 2) {
+        let mut all = address_piece(entry_node(1, 0), 28, 1);
+        all[0] |= 0x80;
+        inside[0] = all;
+    }
+    let inside = inside.concat();
+    [&[33, 4 + inside.len() as u8, 0, 0], &inside[..]].concat()
 }
 
 /// The request that crosses all 16 domains of either profile.

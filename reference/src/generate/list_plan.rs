@@ -2,12 +2,15 @@
 //! were made, not from reading them.
 
 use super::draft::Draft;
-use super::lists::{area_piece, as_piece, route, Include, Piece};
+use super::exrs::for_route;
+use super::exrs_damage::{fault_in_exrs, left_over, with_exrs_between};
+use super::lists::{area_piece, as_piece, entry_node, route, Include, Piece};
 use super::random::Random;
 use super::shapes;
 
-/// The domains with their entry constraints, or number and place.
-pub type Reading = Result<Vec<(u16, Option<u32>)>, (u32, u32)>;
+/// The domains, each with its entry constraint and the bytes of its EXRS, or
+/// number and place.
+pub type Reading = Result<Vec<(u16, Option<u32>, Vec<u8>)>, (u32, u32)>;
 
 /// An include list and what reading it must give.
 #[derive(Clone, Debug)]
@@ -18,39 +21,73 @@ pub struct PlannedInclude {
     pub expected: Reading,
 }
 
+/// A list without EXRS.
 pub fn planned(random: &mut Random) -> PlannedInclude {
     let draft = shapes::valid(random);
-    let ingress = random.below(draft.domains.len());
-    let most = random.between(1, 20).min(16);
-    let route = match random.chance(1, 2) {
-        true => route(random, &draft, ingress, most),
-        false => any_route(random, &draft, ingress, most),
-    };
-    let mut include = Include::new(&draft, ingress);
+    let route = planned_route(random, &draft, 1);
+    let mut include = Include::new(&draft, route[0]);
     include.follow(random, &route);
     let fault = match random.below(3) {
         0 => None,
         1 => fault_in_form(random, &mut include.pieces),
         _ => fault_in_meaning(random, &mut include, &route),
     };
-    let sequence = route
-        .iter()
-        .zip(&include.entries)
-        .map(|(&d, &entry)| (d as u16, entry));
+    finish(include, &route, fault)
+}
+
+/// A list with EXRS before some domains, or one left over.
+pub fn planned_with_exrs(random: &mut Random) -> PlannedInclude {
+    let draft = shapes::valid(random);
+    let route = planned_route(random, &draft, 4);
+    let mut include = Include::new(&draft, route[0]);
+    let exrs = for_route(random, &draft, &route);
+    let constrained = random.pick(&[0, 0, 1, 3]);
+    let mut entries = vec![None];
+    for pair in route.windows(2) {
+        let entry = entry_node(random, &draft, pair[0], pair[1]);
+        entries.push(random.chance(constrained, 6).then_some(entry));
+    }
+    include.spell(random, &route, &entries, &exrs);
+    if random.chance(1, 10) {
+        let bytes = random.pick(&[1_020, 1_024, 1_024, 1_024, 1_028]);
+        include.fill_to(random, bytes);
+    }
+    let fault = match random.below(10) {
+        0..=2 => None,
+        3..=5 if route.len() > 1 => fault_in_exrs(random, &mut include.pieces),
+        6 if route.len() > 1 => fault_in_form(random, &mut include.pieces),
+        _ if route.len() == 1 => left_over(random, &mut include, &route),
+        7 => fault_in_meaning(random, &mut include, &route),
+        8 => with_exrs_between(random, &mut include, &route),
+        _ => left_over(random, &mut include, &route),
+    };
+    finish(include, &route, fault)
+}
+
+/// A route of any length from `least` on where it can be, mostly along hops.
+fn planned_route(random: &mut Random, draft: &Draft, least: usize) -> Vec<usize> {
+    let ingress = random.below(draft.domains.len());
+    let most = random.between(least, 20).min(16);
+    match random.chance(1, 2) {
+        true => route(random, draft, ingress, most),
+        false => any_route(random, draft, ingress, most),
+    }
+}
+
+/// The list, and what it was made for.
+fn finish(include: Include, route: &[usize], fault: Option<(u32, usize)>) -> PlannedInclude {
+    let bytes = include.pieces.concat();
+    let stops = route.iter().zip(include.entries).zip(include.exrs);
+    let sequence = stops.map(|((&domain, entry), exrs)| (domain as u16, entry, exrs));
     let expected = match fault {
+        _ if bytes.len() > 1024 => Err((22, 0)),
         Some((number, offset)) => Err((number, offset as u32)),
         None => Ok(sequence.collect()),
     };
-    let include = include.pieces.concat();
-    let expected = if include.len() > 1024 {
-        Err((22, 0))
-    } else {
-        expected
-    };
     PlannedInclude {
-        profile: draft.encode(),
-        ingress: ingress as u16,
-        include,
+        profile: include.draft.encode(),
+        ingress: route[0] as u16,
+        include: bytes,
         expected,
     }
 }
@@ -63,21 +100,23 @@ fn any_route(random: &mut Random, draft: &Draft, ingress: usize, most: usize) ->
 }
 
 /// Where the piece `index` begins.
-fn offset_of(pieces: &[Piece], index: usize) -> usize {
+pub fn offset_of(pieces: &[Piece], index: usize) -> usize {
     pieces[..index].iter().map(Vec::len).sum()
 }
 
-/// Spoils one piece; all before it are well formed.
+/// Spoils one piece that is no EXRS; all before it are well formed.
 fn fault_in_form(random: &mut Random, pieces: &mut Vec<Piece>) -> Option<(u32, usize)> {
-    if pieces.is_empty() {
+    let plain = (0..pieces.len()).filter(|&index| pieces[index][0] != 33);
+    let plain: Vec<usize> = plain.collect();
+    if plain.is_empty() {
         return None;
     }
-    let index = random.below(pieces.len());
+    let index = random.pick(&plain);
     let offset = offset_of(pieces, index);
     let piece = &mut pieces[index];
     let number = match random.below(5) {
         0 => {
-            piece[0] = random.pick(&[0, 2, 3, 4, 8, 33, 127, 0x82, 0xFF]);
+            piece[0] = random.pick(&[0, 2, 3, 4, 8, 34, 127, 0x82, 0xFF]);
             24
         }
         1 => {
@@ -197,7 +236,7 @@ fn as_of_several(
     Some((29, offset))
 }
 
-fn first_as_of_several(draft: &Draft) -> Option<u32> {
+pub fn first_as_of_several(draft: &Draft) -> Option<u32> {
     let numbers = (0..draft.domains.len()).map(|i| draft.domain(i).as_number);
     numbers
         .into_iter()

@@ -10,7 +10,7 @@ use crate::profile::{IS_IS, NO_AREA, OSPF};
 pub type Piece = Vec<u8>;
 
 /// A byte that is ignored: mostly zero, sometimes anything.
-fn ignored(random: &mut Random) -> u8 {
+pub fn ignored(random: &mut Random) -> u8 {
     if random.chance(3, 4) {
         0
     } else {
@@ -63,8 +63,13 @@ pub fn any_area(random: &mut Random) -> Piece {
 pub struct Include<'a> {
     pub draft: &'a Draft,
     pub pieces: Vec<Piece>,
-    /// The entry constraint that `follow` put on each domain of the route.
+    /// The entry constraint that each domain of the route has, if any.
     pub entries: Vec<Option<u32>>,
+    /// The bytes of the EXRS that each has.
+    pub exrs: Vec<Vec<u8>>,
+    /// Where in the pieces the name of each domain begins, from the second on,
+    /// while nothing was put in between.
+    pub slots: Vec<usize>,
     current_as: u32,
     here: usize,
 }
@@ -72,11 +77,12 @@ pub struct Include<'a> {
 impl<'a> Include<'a> {
     pub fn new(draft: &'a Draft, ingress: usize) -> Include<'a> {
         let current_as = draft.domain(ingress).as_number;
-        let entries = vec![None];
         Include {
             draft,
             pieces: Vec::new(),
-            entries,
+            entries: vec![None],
+            exrs: vec![Vec::new()],
+            slots: Vec::new(),
             current_as,
             here: ingress,
         }
@@ -122,6 +128,7 @@ impl<'a> Include<'a> {
         }
         for pair in route.windows(2) {
             self.entries.push(None);
+            self.exrs.push(Vec::new());
             if random.chance(constrained, 6) {
                 let address = entry_node(random, self.draft, pair[0], pair[1]);
                 self.constrain(random, address);
@@ -212,7 +219,7 @@ pub fn exclude_pieces(random: &mut Random, draft: &Draft, most: usize) -> Vec<Pi
     (0..count).map(|_| exclude_piece(random, draft)).collect()
 }
 
-fn exclude_piece(random: &mut Random, draft: &Draft) -> Piece {
+pub fn exclude_piece(random: &mut Random, draft: &Draft) -> Piece {
     let mut piece = match random.below(8) {
         0 => {
             let domain = draft.domain(random.below(draft.domains.len()));
@@ -236,6 +243,21 @@ fn exclude_piece(random: &mut Random, draft: &Draft) -> Piece {
         piece[0] |= 0x80;
     }
     piece
+}
+
+/// What the profile lacks: all its numbers are reserved, or none is. No area
+/// that is made has this byte.
+pub fn lacked(random: &mut Random, draft: &Draft) -> Piece {
+    let low = random.below(16) as u32;
+    let (as_number, node) = match draft.live {
+        true => (64_496 + low, 0xC000_0200 + low),
+        false => (64_512 + low, 0x0A00_0000 + low),
+    };
+    match random.below(3) {
+        0 => as_piece(random, as_number),
+        1 => area_piece(random, 2, &[0x77; 5]),
+        _ => address_piece(node, 32, 1),
+    }
 }
 
 /// One node, a block around it, or every address.

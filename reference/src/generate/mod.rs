@@ -5,6 +5,10 @@
 mod bounds;
 mod damage;
 mod draft;
+mod exrs;
+mod exrs_damage;
+mod exrs_rounds;
+mod exrs_writing;
 mod large;
 mod list_damage;
 mod list_plan;
@@ -28,6 +32,7 @@ pub use random::Random;
 pub use requests::{NextCase, RequestCase, SeriesCase};
 pub use writing::WriteCase;
 
+use crate::sequence::Stop;
 use lists::Include;
 
 /// What `read_include` takes, with the buffers to lend.
@@ -39,6 +44,23 @@ pub struct IncludeCase {
     pub domains: Vec<u16>,
     pub pinned: Vec<u8>,
     pub pins: Vec<u32>,
+    pub exrs_counts: Vec<u32>,
+    pub exrs: Vec<u8>,
+}
+
+impl IncludeCase {
+    fn without_buffers(profile: Vec<u8>, ingress: u16, include: Vec<u8>) -> IncludeCase {
+        IncludeCase {
+            profile,
+            ingress,
+            include,
+            domains: Vec::new(),
+            pinned: Vec::new(),
+            pins: Vec::new(),
+            exrs_counts: Vec::new(),
+            exrs: Vec::new(),
+        }
+    }
 }
 
 /// A profile for `check_profile`: valid, with one thing wrong, with more, or
@@ -87,17 +109,31 @@ pub fn include_case(seed: u64) -> IncludeCase {
     let draft = shapes::valid(random);
     let ingress = random.below(draft.domains.len());
     let include = list_damage::include_list(random, &mut Include::new(&draft, ingress), ingress);
-    let mut case = IncludeCase {
-        profile: draft.encode(),
-        ingress: ingress as u16,
-        include,
-        domains: Vec::new(),
-        pinned: Vec::new(),
-        pins: Vec::new(),
-    };
+    let mut case = IncludeCase::without_buffers(draft.encode(), ingress as u16, include);
     match random.below(12) {
         0..=1 => case.profile = damage::planned(random).bytes,
         2 => case.ingress = requests::out_of_range_ingress(random, &draft),
+        _ => {}
+    }
+    lend_include(random, &mut case);
+    case
+}
+
+/// The same for a list with EXRS, some with anything wrong in it.
+pub fn exrs_include_case(seed: u64) -> IncludeCase {
+    let random = &mut Random::new(seed, 21);
+    let planned = list_plan::planned_with_exrs(random);
+    let mut case = IncludeCase::without_buffers(planned.profile, planned.ingress, planned.include);
+    match random.below(16) {
+        0 => case.profile = damage::planned(random).bytes,
+        1 => case.ingress = random.pick(&[64, 255, u16::MAX]),
+        2..=6 if !case.include.is_empty() => {
+            for _ in 0..random.between(1, 3) {
+                let at = random.below(case.include.len());
+                let any = random.byte();
+                case.include[at] = random.pick(&[0, 1, 4, 7, 8, 32, 33, 0xA1, any]);
+            }
+        }
         _ => {}
     }
     lend_include(random, &mut case);
@@ -109,18 +145,29 @@ pub fn planned_include(seed: u64) -> PlannedInclude {
     list_plan::planned(&mut Random::new(seed, 13))
 }
 
+/// An include list with EXRS on a valid profile, with what reading it must give.
+pub fn planned_exrs_include(seed: u64) -> PlannedInclude {
+    list_plan::planned_with_exrs(&mut Random::new(seed, 22))
+}
+
 /// Buffers around the size that is needed; sometimes one is short.
 fn lend_include(random: &mut Random, case: &mut IncludeCase) {
     let read = crate::request::accept_include(&case.profile, case.ingress, &case.include);
-    let needed = read.map_or(16, |stops| stops.len());
+    let (needed, bytes) = read.map_or((16, 40), |stops| {
+        let bytes = stops.iter().map(Stop::exrs_bytes).sum();
+        (stops.len(), bytes)
+    });
     let common = random.capacity(needed);
-    let mut sizes = [common; 3];
+    let mut sizes = [common; 4];
     if random.chance(1, 6) {
-        sizes[random.below(3)] = random.capacity(needed);
+        sizes[random.below(4)] = random.capacity(needed);
     }
     case.domains = random.words(sizes[0]).iter().map(|&w| w as u16).collect();
     case.pinned = random.bytes(sizes[1]);
     case.pins = random.words(sizes[2]);
+    case.exrs_counts = random.words(sizes[3]);
+    let capacity = random.capacity(bytes);
+    case.exrs = random.bytes(capacity);
 }
 
 /// A sequence for `write_list`, refused ones included.
@@ -131,6 +178,16 @@ pub fn write_case(seed: u64) -> WriteCase {
 /// A sequence that `write_list` takes, with room for any.
 pub fn valid_write_case(seed: u64) -> WriteCase {
     writing::valid(&mut Random::new(seed, 6))
+}
+
+/// A sequence with EXRS for `write_list`, refused ones included.
+pub fn exrs_write_case(seed: u64) -> WriteCase {
+    exrs_writing::any(&mut Random::new(seed, 23))
+}
+
+/// A sequence with EXRS that `write_list` takes, with room for any.
+pub fn valid_exrs_write_case(seed: u64) -> WriteCase {
+    exrs_writing::valid(&mut Random::new(seed, 24))
 }
 
 /// A request for `tree` and `first`, refused ones included.
@@ -165,6 +222,36 @@ pub fn round_case(seed: u64) -> NextCase {
     requests::with_given(random, request)
 }
 
+/// An accepted request whose EXRS decide between the rounds, and a given list
+/// for it.
+pub fn exrs_round_case(seed: u64) -> NextCase {
+    let random = &mut Random::new(seed, 25);
+    let request = exrs_rounds::any(random);
+    requests::with_given(random, request)
+}
+
+/// A request with EXRS and a given list, refused ones included.
+pub fn exrs_next_case(seed: u64) -> NextCase {
+    let random = &mut Random::new(seed, 26);
+    let request = exrs_rounds::any_or_refused(random);
+    requests::with_given(random, request)
+}
+
+/// A series of calls on a request with EXRS, sometimes a refused one.
+pub fn exrs_series_case(seed: u64) -> SeriesCase {
+    let random = &mut Random::new(seed, 27);
+    let request = exrs_rounds::any_or_refused(random);
+    requests::with_calls(random, request)
+}
+
+/// A PCReq of any kind whose IRO has EXRS.
+pub fn exrs_pcreq_case(seed: u64) -> PcReqCase {
+    let random = &mut Random::new(seed, 28);
+    let request = exrs_rounds::any_or_refused(random);
+    let next = requests::with_given(random, request);
+    message_cases::pcreq_case(random, next)
+}
+
 /// An accepted request with wide costs, and a given list for it.
 pub fn wide_case(seed: u64) -> NextCase {
     let random = &mut Random::new(seed, 20);
@@ -190,6 +277,12 @@ pub fn largest_profile(seed: u64) -> Vec<u8> {
 /// The request that crosses 16 domains of `largest_profile(seed)`.
 pub fn largest_request(seed: u64) -> RequestCase {
     large::crossing_request(&large::largest(&mut Random::new(seed, 12)))
+}
+
+/// The same with 15 EXRS, which fill the include list up to its 1,024 bytes, in
+/// one round or in two.
+pub fn largest_exrs_request(seed: u64, rounds: u32) -> RequestCase {
+    large::with_exrs(&large::largest(&mut Random::new(seed, 12)), rounds)
 }
 
 /// The same with costs up to the limit, and a bound right above the least total,

@@ -4,12 +4,12 @@
 
 use super::bounds::{bound_between, least_totals, set_bound};
 use super::draft::Draft;
-use super::lists::{address_piece, area_piece, as_piece, exclude_pieces, Piece};
+use super::exrs::domain_piece;
+use super::lists::{address_piece, exclude_pieces, lacked, Piece};
 use super::random::Random;
 use super::requests::{along_a_route, lend, RequestCase};
 use super::shapes;
 use crate::paths::ShortestPaths;
-use crate::profile::NO_AREA;
 
 /// More exclusions than this aren't needed to rule the cheapest paths out.
 const MOST_ON_PATHS: usize = 8;
@@ -24,7 +24,7 @@ pub fn any(random: &mut Random) -> RequestCase {
 
 /// One of a few requests without exclusions: mostly one that has paths, and
 /// paths that cost something, so that others may cost more.
-fn mostly_with_paths(random: &mut Random) -> (Draft, RequestCase) {
+pub fn mostly_with_paths(random: &mut Random) -> (Draft, RequestCase) {
     let mut tries = random.pick(&[1, 10, 10, 10]);
     loop {
         let draft = match random.chance(1, 10) {
@@ -92,7 +92,7 @@ fn one_node(random: &mut Random, left: &mut RequestCase, path: &[u32]) -> Piece 
     piece
 }
 
-fn shortest(case: &RequestCase) -> Option<ShortestPaths> {
+pub fn shortest(case: &RequestCase) -> Option<ShortestPaths> {
     case.question().ok().map(ShortestPaths::new)
 }
 
@@ -104,26 +104,8 @@ fn on_every_path(random: &mut Random, draft: &Draft, case: &RequestCase) -> Piec
         let prefix = random.pick(&[32, 32, 31, 8, 0]);
         return address_piece(end, prefix, 1);
     }
-    let domain = draft.domain(random.pick(&stops).domain);
-    match domain.kind != NO_AREA && random.chance(1, 2) {
-        true => area_piece(random, domain.kind, domain.area),
-        false => as_piece(random, domain.as_number),
-    }
-}
-
-/// What the profile lacks: all its numbers are reserved, or none is. No area
-/// that is made has this byte.
-fn lacked(random: &mut Random, draft: &Draft) -> Piece {
-    let low = random.below(16) as u32;
-    let (as_number, node) = match draft.live {
-        true => (64_496 + low, 0xC000_0200 + low),
-        false => (64_512 + low, 0x0A00_0000 + low),
-    };
-    match random.below(3) {
-        0 => as_piece(random, as_number),
-        1 => area_piece(random, 2, &[0x77; 5]),
-        _ => address_piece(node, 32, 1),
-    }
+    let at = random.below(stops.len());
+    domain_piece(random, draft, stops[at].domain)
 }
 
 /// All of them in any order, with X set in all, none, or some.

@@ -1,10 +1,12 @@
 //! Sequences for the writer.
 
 use super::damage::planned;
+use super::draft::Draft;
 use super::lists::{entry_node, route};
 use super::random::Random;
 use super::shapes;
 use crate::check::check;
+use crate::outcome::NotDone;
 use crate::writer;
 
 /// What `write_list` takes, with the buffer to lend.
@@ -14,15 +16,44 @@ pub struct WriteCase {
     pub domains: Vec<u16>,
     pub pinned: Vec<u8>,
     pub pins: Vec<u32>,
+    pub exrs_counts: Vec<u32>,
+    pub exrs: Vec<u8>,
     pub out: Vec<u8>,
 }
 
-/// A sequence the writer takes; the buffer has room for any.
+impl WriteCase {
+    /// How long the list is that the sequence is written as, if it can be.
+    pub fn written(&self) -> Result<usize, NotDone> {
+        let profile = check(&self.profile)?;
+        let stops = writer::gather(
+            &profile,
+            &self.domains,
+            &self.pinned,
+            &self.pins,
+            &self.exrs_counts,
+            &self.exrs,
+        )?;
+        Ok(writer::write(&profile, &stops)?.len())
+    }
+
+    /// These bytes as the EXRS of each domain.
+    pub fn set_exrs(&mut self, each: &[Vec<u8>]) {
+        self.exrs_counts = each.iter().map(|bytes| bytes.len() as u32).collect();
+        self.exrs = each.concat();
+    }
+}
+
+/// A sequence without EXRS that the writer takes; the buffer has room for any.
 pub fn valid(random: &mut Random) -> WriteCase {
     let draft = shapes::valid(random);
+    of_draft(random, &draft).0
+}
+
+/// A sequence along a route of the draft, and the route.
+pub fn of_draft(random: &mut Random, draft: &Draft) -> (WriteCase, Vec<usize>) {
     let ingress = random.below(draft.domains.len());
     let route = match random.chance(1, 2) {
-        true => route(random, &draft, ingress, 16),
+        true => route(random, draft, ingress, 16),
         false => shapes::shuffled(random, draft.domains.len())
             .into_iter()
             .take(16)
@@ -34,24 +65,34 @@ pub fn valid(random: &mut Random) -> WriteCase {
         .collect();
     // What stands where there is no entry constraint is not looked at.
     let pins = (0..route.len())
-        .map(|i| entry_node(random, &draft, route[i.saturating_sub(1)], route[i]))
+        .map(|i| entry_node(random, draft, route[i.saturating_sub(1)], route[i]))
         .collect();
-    WriteCase {
+    let case = WriteCase {
         profile: draft.encode(),
         domains: route.iter().map(|&d| d as u16).collect(),
         pinned,
         pins,
-        out: random.bytes(600),
-    }
+        exrs_counts: vec![0; route.len()],
+        exrs: Vec::new(),
+        out: random.bytes(1_100),
+    };
+    (case, route)
 }
 
-/// A sequence of any kind.
+/// A sequence of any kind without EXRS.
 pub fn any(random: &mut Random) -> WriteCase {
     let mut case = valid(random);
+    spoil(random, &mut case);
+    lend(random, &mut case);
+    case
+}
+
+/// Makes a sequence one that can't be written, now and then.
+pub fn spoil(random: &mut Random, case: &mut WriteCase) {
     match random.below(36) {
         0..=4 => case.profile = planned(random).bytes,
-        5 => resize(&mut case, 0),
-        6 => over_16(random, &mut case),
+        5 => resize(case, 0),
+        6 => over_16(random, case),
         7..=8 => {
             let at = random.below(case.domains.len());
             let count = case.profile[7];
@@ -61,7 +102,7 @@ pub fn any(random: &mut Random) -> WriteCase {
             let again = random.pick(&case.domains);
             case.domains.push(again);
             let count = case.domains.len();
-            resize(&mut case, count);
+            resize(case, count);
         }
         10 => case.pinned[0] = 1,
         11 => case.pins.push(7),
@@ -72,14 +113,13 @@ pub fn any(random: &mut Random) -> WriteCase {
         }
         _ => {}
     }
-    lend(random, &mut case);
-    case
 }
 
 fn resize(case: &mut WriteCase, count: usize) {
     case.domains.resize(count, 0);
     case.pinned.resize(count, 0);
     case.pins.resize(count, 0);
+    case.exrs_counts.resize(count, 0);
 }
 
 /// Seventeen domains or more, different where the profile has so many.
@@ -90,11 +130,7 @@ fn over_16(random: &mut Random, case: &mut WriteCase) {
 }
 
 /// A buffer around the length that is needed.
-fn lend(random: &mut Random, case: &mut WriteCase) {
-    let written = check(&case.profile).and_then(|profile| {
-        let stops = writer::gather(&profile, &case.domains, &case.pinned, &case.pins)?;
-        Ok(writer::write(&profile, &stops).len())
-    });
-    let capacity = random.capacity(written.unwrap_or(40));
+pub fn lend(random: &mut Random, case: &mut WriteCase) {
+    let capacity = random.capacity(case.written().unwrap_or(40));
     case.out = random.bytes(capacity);
 }

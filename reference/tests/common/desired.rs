@@ -1,4 +1,5 @@
-//! Exclude lists by their X bits, and how a request's round comes about.
+//! Exclusions by their X bits, in exclude lists and in EXRS, and how a request's
+//! round comes about.
 
 use reference::Request;
 use std::collections::BTreeMap;
@@ -14,6 +15,53 @@ pub fn subobjects(list: &[u8]) -> Vec<&[u8]> {
         rest = after;
     }
     pieces
+}
+
+/// A well-formed include list with what is inside each EXRS changed; an EXRS
+/// left with nothing inside is left out.
+fn changed_inside(include: &[u8], change: impl Fn(&[u8]) -> Vec<u8>) -> Vec<u8> {
+    let mut list = Vec::new();
+    for piece in subobjects(include) {
+        if piece[0] != 33 {
+            list.extend(piece);
+            continue;
+        }
+        let inside = change(&piece[4..]);
+        if !inside.is_empty() {
+            list.extend([33, 4 + inside.len() as u8, piece[2], piece[3]]);
+            list.extend(inside);
+        }
+    }
+    list
+}
+
+/// What is inside all EXRS of a well-formed include list, back to back.
+pub fn inside_exrs(include: &[u8]) -> Vec<u8> {
+    let mut pieces = subobjects(include);
+    pieces.retain(|piece| piece[0] == 33);
+    pieces
+        .iter()
+        .flat_map(|piece| &piece[4..])
+        .copied()
+        .collect()
+}
+
+/// Whether some exclusion of an accepted request has X set.
+pub fn some_desired(request: &Request) -> bool {
+    any_desired(request.exclude) || any_desired(&inside_exrs(request.include))
+}
+
+/// The two lists with the exclusions alone that count in a round, all of them
+/// demanded. An accepted list crosses the same domains without its EXRS.
+pub fn in_round(request: &Request, round: u32) -> (Vec<u8>, Vec<u8>) {
+    let change = match round {
+        1 => all_demanded,
+        _ => demanded_alone,
+    };
+    (
+        changed_inside(request.include, change),
+        change(request.exclude),
+    )
 }
 
 /// Whether some exclusion of a well-formed list has X set.
@@ -65,12 +113,13 @@ impl Decided {
     /// worked out from requests of which none has a second round, but for the
     /// last question: whether this one has a path.
     pub fn of(request: &Request, has_path: impl Fn(&Request) -> bool) -> Decided {
-        let exclude = all_demanded(request.exclude);
+        let (include, exclude) = in_round(request, 1);
         let first = Request {
+            include: &include,
             exclude: &exclude,
             ..*request
         };
-        let desired = any_desired(request.exclude);
+        let desired = some_desired(request);
         if has_path(&first) {
             return match desired {
                 true => Decided::ForTheFirst,
@@ -101,7 +150,9 @@ impl Emptied {
             bound_counts: false,
             ..*request
         };
+        let include = changed_inside(request.include, |_| Vec::new());
         let free = Request {
+            include: &include,
             exclude: &[],
             ..unbounded
         };

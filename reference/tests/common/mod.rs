@@ -148,10 +148,11 @@ pub fn tree(request: &Request) -> (Vec<Entry>, u32, u32) {
     (entries, numbers[2], numbers[3])
 }
 
-/// The sequence with its entry constraints, or number and place.
+/// The sequence with its entry constraints and EXRS, or number and place.
 pub fn read(profile: &[u8], ingress: u16, include: &[u8]) -> Reading {
     let (mut domains, mut pinned, mut pins) = ([0xAAAA; 16], [0xAA; 16], [OLD; 16]);
-    let mut numbers = [7; 2];
+    let (mut exrs_counts, mut exrs) = ([OLD; 16], [0xAA; 1024]);
+    let mut numbers = [7; 3];
     let number = reference::read_include(
         profile,
         ingress,
@@ -159,20 +160,36 @@ pub fn read(profile: &[u8], ingress: u16, include: &[u8]) -> Reading {
         &mut domains,
         &mut pinned,
         &mut pins,
+        &mut exrs_counts,
+        &mut exrs,
         &mut numbers,
     );
     if number != 0 {
-        assert_eq!(numbers[1], 0);
+        assert_eq!(numbers[1..], [0, 0]);
         assert_eq!(
-            (domains, pinned, pins),
-            ([0xAAAA; 16], [0xAA; 16], [OLD; 16])
+            (domains, pinned, pins, exrs_counts, exrs),
+            ([0xAAAA; 16], [0xAA; 16], [OLD; 16], [OLD; 16], [0xAA; 1024])
         );
         return Err((number, numbers[0]));
     }
-    let count = numbers[1] as usize;
-    Ok((0..count)
-        .map(|i| (domains[i], (pinned[i] == 1).then_some(pins[i])))
-        .collect())
+    let [_, count, bytes] = numbers.map(|number| number as usize);
+    assert!(exrs[bytes..].iter().all(|&byte| byte == 0xAA));
+    let mut rest = &exrs[..bytes];
+    let mut stops = Vec::new();
+    for i in 0..count {
+        let (own, after) = rest.split_at(exrs_counts[i] as usize);
+        let entry = (pinned[i] == 1).then_some(pins[i]);
+        stops.push((domains[i], entry, own.to_vec()));
+        rest = after;
+    }
+    assert!(rest.is_empty());
+    Ok(stops)
+}
+
+/// A sequence with these entry constraints and no EXRS.
+pub fn without_exrs(stops: impl IntoIterator<Item = (u16, Option<u32>)>) -> Reading {
+    let stop = |(domain, entry)| (domain, entry, Vec::new());
+    Ok(stops.into_iter().map(stop).collect())
 }
 
 pub fn check(profile: &[u8]) -> (u32, u32) {

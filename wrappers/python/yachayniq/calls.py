@@ -59,14 +59,15 @@ def _types() -> dict[str, list[Any]]:
     octets = [ctypes.POINTER(u8), size]
     marks = [ctypes.POINTER(flag), size]  # each 0 or 1
     indices = [ctypes.POINTER(u16), size]
+    sequence = [*indices, *marks, *words, *words]
     request = [*data, u16, u32, u32, *data, *data, u32, flag, u32]
     carried = [*data, u16, *data]
     tree = [*words, *words, *marks, *words, numbers]
     metrics = [*octets, *octets, *words]
     return {
         "yq_check_profile": [*data, numbers],
-        "yq_read_include": [*data, u16, *data, *indices, *marks, *words, numbers],
-        "yq_write_list": [*data, *indices, *marks, *words, *octets, numbers],
+        "yq_read_include": [*data, u16, *data, *sequence, *octets, numbers],
+        "yq_write_list": [*data, *sequence, *data, *octets, numbers],
         "yq_tree": [*request, *tree],
         "yq_first": [*request, *words, numbers],
         "yq_next": [*request, *words, *words, numbers],

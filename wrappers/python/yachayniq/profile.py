@@ -40,16 +40,22 @@ class Profile:
         domains = (ctypes.c_uint16 * MOST_DOMAINS)()
         pinned = (ctypes.c_bool * MOST_DOMAINS)()
         pins = (ctypes.c_uint32 * MOST_DOMAINS)()
-        numbers = (ctypes.c_uint32 * 2)()
+        exrs_counts = (ctypes.c_uint32 * MOST_DOMAINS)()
+        exrs = (ctypes.c_uint8 * MOST_LIST_BYTES)()
+        numbers = (ctypes.c_uint32 * 3)()
         number = library().yq_read_include(
             self._data, len(self._data), index(ingress, "ingress"), given, len(given),
-            domains, MOST_DOMAINS, pinned, MOST_DOMAINS, pins, MOST_DOMAINS, numbers,
+            domains, MOST_DOMAINS, pinned, MOST_DOMAINS, pins, MOST_DOMAINS,
+            exrs_counts, MOST_DOMAINS, exrs, MOST_LIST_BYTES, numbers,
         )
         unless_refused("read_include", number, numbers[0])
-        return [
-            Stop(domains[i], dotted(pins[i]) if pinned[i] else None)
-            for i in range(numbers[1])
-        ]
+        stops, at = [], 0
+        for i in range(numbers[1]):
+            pin = dotted(pins[i]) if pinned[i] else None
+            end = at + exrs_counts[i]
+            stops.append(Stop(domains[i], pin, bytes(exrs[at:end])))
+            at = end
+        return stops
 
     def write_list(self, stops: Iterable[Stop]) -> bytes:
         """The list that means this sequence, read with its first domain as ingress."""
@@ -59,6 +65,8 @@ class Profile:
         count = len(stops)
         domains = [index(stop.domain, "domain") for stop in stops]
         pins = [0 if stop.pin is None else numbered(stop.pin, "pin") for stop in stops]
+        exrs = [octets(stop.exrs, "exrs") for stop in stops]
+        all_exrs = b"".join(exrs)
         out = (ctypes.c_uint8 * MOST_LIST_BYTES)()
         numbers = (ctypes.c_uint32 * 2)()
         number = library().yq_write_list(
@@ -66,6 +74,8 @@ class Profile:
             (ctypes.c_uint16 * count)(*domains), count,
             (ctypes.c_bool * count)(*(stop.pin is not None for stop in stops)), count,
             (ctypes.c_uint32 * count)(*pins), count,
+            (ctypes.c_uint32 * count)(*map(len, exrs)), count,
+            all_exrs, len(all_exrs),
             out, MOST_LIST_BYTES, numbers,
         )
         unless_refused("write_list", number, numbers[0])

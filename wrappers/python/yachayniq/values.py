@@ -28,10 +28,16 @@ class Request:
 
 @dataclass(frozen=True)
 class Stop:
-    """A domain of a sequence, and the node to enter it through, if one is set."""
+    """A domain of a sequence, the node to enter it through, if one is set, and its EXRS,
+    what is excluded for it alone.
+
+    exrs  whole EXRS, back to back: write_exrs makes one, read_exrs takes them apart;
+          the first domain has none
+    """
 
     domain: int
     pin: Address | None = None
+    exrs: Octets = b""
 
 
 class Entry(NamedTuple):

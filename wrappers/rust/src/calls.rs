@@ -1,5 +1,6 @@
 //! The calls of `include/yachayniq.h`, on slices.
 
+use crate::lists::Parts;
 use crate::Request;
 
 pub mod messages;
@@ -19,6 +20,10 @@ extern "C" {
         pinned_count: usize,
         pins: *mut u32,
         pins_count: usize,
+        exrs_counts: *mut u32,
+        exrs_counts_count: usize,
+        exrs: *mut u8,
+        exrs_count: usize,
         numbers: *mut u32,
     ) -> u32;
 
@@ -31,6 +36,10 @@ extern "C" {
         pinned_count: usize,
         pins: *const u32,
         pins_count: usize,
+        exrs_counts: *const u32,
+        exrs_counts_count: usize,
+        exrs: *const u8,
+        exrs_count: usize,
         out: *mut u8,
         out_count: usize,
         numbers: *mut u32,
@@ -111,18 +120,16 @@ pub fn check_profile(profile: &[u8], numbers: &mut [u32; 1]) -> u32 {
     unsafe { yq_check_profile(profile.as_ptr(), profile.len(), numbers.as_mut_ptr()) }
 }
 
-/// `numbers`: place, how many domains.
+/// `numbers`: place, how many domains, how many bytes of EXRS.
 pub fn read_include(
     profile: &[u8],
     ingress: u16,
     include: &[u8],
-    domains: &mut [u16],
-    pinned: &mut [u8],
-    pins: &mut [u32],
-    numbers: &mut [u32; 2],
+    room: &mut Parts,
+    numbers: &mut [u32; 3],
 ) -> u32 {
     // SAFETY: the call reads the two lists' bytes and writes no further than
-    // the three buffers and the array's two numbers.
+    // the five buffers and the array's three numbers.
     unsafe {
         yq_read_include(
             profile.as_ptr(),
@@ -130,38 +137,39 @@ pub fn read_include(
             ingress,
             include.as_ptr(),
             include.len(),
-            domains.as_mut_ptr(),
-            domains.len(),
-            pinned.as_mut_ptr(),
-            pinned.len(),
-            pins.as_mut_ptr(),
-            pins.len(),
+            room.domains.as_mut_ptr(),
+            room.domains.len(),
+            room.pinned.as_mut_ptr(),
+            room.pinned.len(),
+            room.pins.as_mut_ptr(),
+            room.pins.len(),
+            room.exrs_counts.as_mut_ptr(),
+            room.exrs_counts.len(),
+            room.exrs.as_mut_ptr(),
+            room.exrs.len(),
             numbers.as_mut_ptr(),
         )
     }
 }
 
 /// `numbers`: place, how many bytes.
-pub fn write_list(
-    profile: &[u8],
-    domains: &[u16],
-    pinned: &[u8],
-    pins: &[u32],
-    out: &mut [u8],
-    numbers: &mut [u32; 2],
-) -> u32 {
-    // SAFETY: the call reads the four lists and writes no further than the
+pub fn write_list(profile: &[u8], stops: &Parts, out: &mut [u8], numbers: &mut [u32; 2]) -> u32 {
+    // SAFETY: the call reads the six lists and writes no further than the
     // buffer and the array's two numbers.
     unsafe {
         yq_write_list(
             profile.as_ptr(),
             profile.len(),
-            domains.as_ptr(),
-            domains.len(),
-            pinned.as_ptr(),
-            pinned.len(),
-            pins.as_ptr(),
-            pins.len(),
+            stops.domains.as_ptr(),
+            stops.domains.len(),
+            stops.pinned.as_ptr(),
+            stops.pinned.len(),
+            stops.pins.as_ptr(),
+            stops.pins.len(),
+            stops.exrs_counts.as_ptr(),
+            stops.exrs_counts.len(),
+            stops.exrs.as_ptr(),
+            stops.exrs.len(),
             out.as_mut_ptr(),
             out.len(),
             numbers.as_mut_ptr(),

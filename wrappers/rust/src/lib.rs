@@ -20,13 +20,30 @@
 //! What the library refuses is a `Refusal` with its number and place
 //! (`include/yachayniq.h` lists them), which displays what they mean.
 //!
-//! An exclusion with X set is only desired: if there is one, and no path keeps
-//! the bound with all exclusions, only those with X clear count, and the tree
-//! and the paths are of round 2, else of round 1.
+//! An exclusion with X set is only desired: if there is one, in the exclude list
+//! or in an EXRS of the include list, and no path keeps the bound with all
+//! exclusions, only those with X clear count, and the tree and the paths are of
+//! round 2, else of round 1.
+//!
+//! An EXRS excludes for one domain of the sequence alone. Here AS 64497 isn't
+//! entered through 192.0.2.12:
+//!
+//! ```no_run
+//! # use yachayniq::{write_exrs, Excluded, Profile, Stop};
+//! # fn main() -> Result<(), Box<dyn std::error::Error>> {
+//! # let profile = Profile::new(std::fs::read("examples/w.dsp")?)?;
+//! let exrs = write_exrs(&[Excluded::node("192.0.2.12".parse()?).demanded()])?;
+//! let by_64497 = Stop { exrs, ..Stop::new(1) };
+//! let include = profile.write_list(&[Stop::new(0), by_64497, Stop::new(2)])?;
+//! # Ok(())
+//! # }
+//! ```
 
 use std::net::Ipv4Addr;
 
 mod calls;
+mod exrs;
+mod lists;
 mod messages;
 mod metrics;
 mod numbers;
@@ -37,6 +54,8 @@ mod refusal;
 mod series;
 mod tree;
 
+pub use exrs::{read_exrs, write_exrs, Excluded, Exclusion, ExrsError};
+pub use lists::Stop;
 pub use messages::PcreqPaths;
 pub use metrics::Metric;
 pub use numbers::Call;
@@ -48,9 +67,6 @@ pub use series::Ask;
 pub use tree::{Entry, Tree};
 
 use refusal::unless_refused;
-
-const MOST_DOMAINS: usize = 16;
-const MOST_LIST_BYTES: usize = 1024;
 
 /// What is asked of a profile: a path from source to destination.
 #[derive(Clone, Copy, Debug)]
@@ -84,13 +100,6 @@ impl Request<'_> {
     }
 }
 
-/// A domain of a sequence, and the node to enter it through, if one is set.
-#[derive(Clone, Copy, Debug, PartialEq, Eq)]
-pub struct Stop {
-    pub domain: u16,
-    pub pin: Option<Ipv4Addr>,
-}
-
 /// Whether these bytes are a profile.
 pub fn check_profile(bytes: &[u8]) -> Result<(), Refusal> {
     let mut place = [0];
@@ -107,46 +116,5 @@ impl Profile {
         let bytes = bytes.into();
         check_profile(&bytes)?;
         Ok(Profile(bytes))
-    }
-
-    /// The sequence of domains that an include list means.
-    pub fn read_include(&self, ingress: u16, include: &[u8]) -> Result<Vec<Stop>, Refusal> {
-        let mut domains = [0; MOST_DOMAINS];
-        let mut pinned = [0; MOST_DOMAINS];
-        let mut pins = [0; MOST_DOMAINS];
-        let mut numbers = [0; 2];
-        let number = calls::read_include(
-            &self.0,
-            ingress,
-            include,
-            &mut domains,
-            &mut pinned,
-            &mut pins,
-            &mut numbers,
-        );
-        let [place, count] = numbers;
-        unless_refused(Call::ReadInclude, number, place)?;
-        let stop = |i: usize| Stop {
-            domain: domains[i],
-            pin: (pinned[i] == 1).then(|| pins[i].into()),
-        };
-        Ok((0..count as usize).map(stop).collect())
-    }
-
-    /// The list that means this sequence, read with its first domain as ingress.
-    pub fn write_list(&self, stops: &[Stop]) -> Result<Vec<u8>, Refusal> {
-        let domains: Vec<u16> = stops.iter().map(|stop| stop.domain).collect();
-        let pinned: Vec<u8> = stops.iter().map(|stop| stop.pin.is_some().into()).collect();
-        let pins: Vec<u32> = stops
-            .iter()
-            .map(|stop| stop.pin.map_or(0, u32::from))
-            .collect();
-        let mut list = vec![0; MOST_LIST_BYTES];
-        let mut numbers = [0; 2];
-        let number = calls::write_list(&self.0, &domains, &pinned, &pins, &mut list, &mut numbers);
-        let [place, length] = numbers;
-        unless_refused(Call::WriteList, number, place)?;
-        list.truncate(length as usize);
-        Ok(list)
     }
 }

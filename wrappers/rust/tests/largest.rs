@@ -60,8 +60,8 @@ fn largest() {
     let profile = profile();
     let through = |pin: Option<u8>| -> Vec<Stop> {
         let stop = |domain| Stop {
-            domain,
             pin: pin.filter(|_| domain > 0).map(|j| node(domain, j)),
+            ..Stop::new(domain)
         };
         (0..16).map(stop).collect()
     };

@@ -157,7 +157,7 @@ fn damaged() {
         bound,
     ]);
     let drawn = &mut Drawn::new(2);
-    let mut told = [0; 42];
+    let mut told = [0; 43];
     for _ in 0..50_000 {
         let whole = model.len() as u32;
         let length = [drawn.below(whole + 1), whole][usize::from(drawn.below(4) != 0)];

@@ -182,7 +182,7 @@ fn requests_refused() {
     let zeros = "00".repeat(1028);
     refused(&pcreq(&[RP, ENDS, "0A120408", &zeros]), 22, 0);
     refused(&asked_with(&["1112040C 00000000", &zeros]), 22, 1);
-    refused(&pcreq(&[RP, ENDS, "0A12000C 2004FBF1 2104FBF2"]), 24, 4);
+    refused(&pcreq(&[RP, ENDS, "0A12000C 2004FBF1 2204FBF2"]), 24, 4);
     carried(&pcreq(&[RP, ENDS, "0A12000C 2004FBF1 2004FBF0"]), 30, 4);
     let asked = bytes(ASKED);
     assert_eq!(w.pcreq_tree(3, &asked), refusal(Call::PcreqTree, 20, 0));

@@ -58,7 +58,7 @@ fn vectors() {
 fn generated() {
     let drawn = &mut Drawn::new(3);
     for _ in 0..20_000 {
-        let (include, exclude) = (drawn.list(0), drawn.list(0x80));
+        let (include, exclude) = (drawn.include(), drawn.list(0x80));
         reads_back(&drawn.pcreq(&include, &exclude));
     }
 }
@@ -88,7 +88,7 @@ fn refused(asked: Pcreq, number: u32, place: u32) {
 #[test]
 fn refusals() {
     let zeros = [0; 70_000];
-    let wrong = [32, 4, 0xFB, 0xF1, 33, 4, 0, 0];
+    let wrong = [32, 4, 0xFB, 0xF1, 34, 4, 0, 0];
     for (list, number, places) in [
         (&zeros[..6], 37, [0, 0]),
         (&zeros, 37, [0, 0]),
@@ -126,6 +126,24 @@ fn refusals() {
         },
         27,
         4,
+    );
+    let include = &[33, 4, 0, 0];
+    refused(
+        Pcreq {
+            include,
+            ..w_asked()
+        },
+        26,
+        0,
+    );
+    let exclude = &[33, 8, 0, 0, 32, 4, 0xFB, 0xF1];
+    refused(
+        Pcreq {
+            exclude,
+            ..w_asked()
+        },
+        24,
+        0,
     );
     let exclude = &[1, 8, 192, 0, 2, 12, 32, 0];
     refused(

@@ -242,7 +242,6 @@ fn lists() {
         areas.extend([0, 0, 0, record[3], 0, 0, 0, 0, 0, 0, 0, 0, 0, 0]);
     }
     let areas = Profile::new(areas).unwrap();
-    let stop = |domain| Stop { domain, pin: None };
     let written = [
         [5, 8, 0, 0, 0, 0, 0xFB, 0xF4],
         [6, 8, 0, 0, 0, 0, 0, 0],
@@ -251,13 +250,16 @@ fn lists() {
         [6, 8, 0, 0, 0, 0, 0, 4],
     ]
     .concat();
-    let sequence = vec![stop(0), stop(1), stop(2)];
+    let sequence = [0, 1, 2].map(Stop::new).to_vec();
     assert_eq!(areas.read_include(0, &written), Ok(sequence.clone()));
     assert_eq!(areas.read_include(0, &written[16..]), Ok(sequence.clone()));
     assert_eq!(areas.write_list(&sequence), Ok(written.clone()));
 
-    let pin = Some(U);
-    let pinned = vec![stop(0), Stop { domain: 2, pin }, stop(1)];
+    let through_u = |domain| Stop {
+        pin: Some(U),
+        ..Stop::new(domain)
+    };
+    let pinned = vec![Stop::new(0), through_u(2), Stop::new(1)];
     let list = areas.write_list(&pinned).unwrap();
     assert_eq!(areas.read_include(0, &list), Ok(pinned));
     assert_eq!(
@@ -270,9 +272,9 @@ fn lists() {
     );
     for wrong in [
         &[][..],
-        &[stop(0), stop(0)],
-        &[stop(3)],
-        &[Stop { domain: 0, pin }],
+        &[Stop::new(0), Stop::new(0)],
+        &[Stop::new(3)],
+        &[through_u(0)],
     ] {
         assert_eq!(areas.write_list(wrong), refusal(Call::WriteList, 35, 0));
     }

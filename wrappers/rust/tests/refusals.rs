@@ -28,9 +28,13 @@ fn of_profiles_and_lists() {
     let pool = "16, place 3: AS or a node's address outside the reserved ranges in class 0, \
         or inside them in class 1 (place: record, from 0, domain records first)";
     says(check_profile(&wrong), pool);
-    let kind = "24, place 0: subobject's type not 1 (IPv4), 5 or 32 (AS), 6 (OSPF area) \
-        or 7 (IS-IS area) (place: offset in the include list)";
-    says(w().read_include(0, &[33, 4, 0, 0]), kind);
+    let kind = "24, place 0: subobject's type not 1 (IPv4), 5 or 32 (AS), 6 (OSPF area), \
+        7 (IS-IS area) or, outside an EXRS, 33 (EXRS) (place: offset in the include list)";
+    says(w().read_include(0, &[34, 4, 0, 0]), kind);
+    let left = "42, place 4: an EXRS with no new domain after it \
+        (place: offset in the include list)";
+    let list = [32, 4, 0xFB, 0xF1, 33, 8, 0, 0, 32, 4, 0, 9];
+    says(w().read_include(0, &list), left);
     let written = w().write_list(&[]).unwrap_err().to_string();
     assert!(written.starts_with("refused: number 35, place 0: not a sequence that can be written"));
 }

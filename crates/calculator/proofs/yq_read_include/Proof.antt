@@ -19,9 +19,16 @@ same-length-2 c = search needs
 same-length-3 : tie.Need-same-length-3
 same-length-3 c = search needs
 
+same-length-4 : tie.Need-same-length-4
+same-length-4 c = search needs
+
+same-length-5 : tie.Need-same-length-5
+same-length-5 c = search needs
+
 returns : tie.Need-returns
 returns c =
-    read-export _ _ _ _ _ _ _ _ _ _ _ (c .before .before .before .before .before .before .before .before .read-include .result) (c .before .before .before .before .before .before .before .before .read-include .ensures) (c .tell-read .ensures .0) (c .tell-read .ensures .1)
+    let read = c .before .before .before .before .before .before .before .before .before .before .before .before .read-include in
+    read-export _ _ _ _ _ _ _ _ _ _ _ _ _ (read .result) (read .ensures) (c .tell-read .ensures .0) (c .tell-read .ensures .1)
 
 pub yq-read-include-spec : {M : Type 1} → statement M
 yq-read-include-spec =
@@ -32,4 +39,6 @@ yq-read-include-spec =
     same-length
     same-length-2
     same-length-3
+    same-length-4
+    same-length-5
     returns)

@@ -24,7 +24,7 @@ subobject-at-requires c κs =
     readable-here (barsDomain (a .round) (a .d)) (a .list .now) (c .before .loop .at) (c .before .loop .inv) (c .loop-test .taken)
 
 bars-domain-requires : tie.Need-bars-domain-requires Inv-loop μ-loop
-bars-domain-requires c κs = (c .subobject-at .ensures .area, c .before .before .before .before .pre .1)
+bars-domain-requires c κs = (c .subobject-at .ensures .there, c .before .before .before .before .pre .1)
 
 returns : tie.Need-returns Inv-loop μ-loop
 returns c =

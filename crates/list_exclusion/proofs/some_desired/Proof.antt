@@ -86,7 +86,7 @@ abbrev onward : Body
 onward = seq (assign (place 8 []) (rvOpd (copy (place 2 [])))) (call #moved-past (copy (place 8 []) ∷ []) (place 2 []))
 
 same : (l : List ℕ) → someNamed isDesired l ≡ someDesired (subobjects l)
-unfolding someDesired
+unfolding someDesired subobjects
 same l = refl
 
 module _ {M : Type 1} (𝓤 : URA M) (H : Heap 𝓤) (A : Atoms 𝓤) (W : Given 𝓤 H A) (mem : Memory → SProp 𝓤) (run : Routine → Fun 𝓤) (κ : Lft) (q : Share) (s : RefT (List ℕ)) where

@@ -2,7 +2,7 @@
 use mathlib.Core.Path.{_≡_, sym, ap, subst, subst⁻¹}
 use Rattle.model.specs.Exclusion.{takesDomain}
 use Rattle.list_subobject.specs.declared.item.Named.{Named}
-use Rattle.list_subobject.specs.Items.{namedOf, AreaInside}
+use Rattle.list_subobject.specs.Items.{namedOf, BytesInside}
 use borrow.Author.Needs.{needs}
 use Rattle.list_exclusion.proofs.takes_domain.Statement.{statement}
 use Rattle.list_exclusion.proofs.takes_domain.Tie as tie
@@ -20,7 +20,10 @@ has-area-requires : tie.Need-has-area-requires
 has-area-requires c κs =
     let a = c .before .before .before .before .args in
     let pre = c .before .before .before .before .pre in
-    (subst (AreaInside (a .list .now)) (c .before .named2 .given .1) (pre .0), pre .1)
+    (subst (BytesInside (a .list .now)) (c .before .named2 .given .1) (pre .0), pre .1)
+
+enum-told-2 : tie.Need-enum-told-2
+enum-told-2 c = search needs
 
 returns : tie.Need-returns
 returns c = search needs
@@ -35,6 +38,9 @@ returns-3 c =
     let a = c .before .before .before .before .before .args in
     subst⁻¹ (λ (n : Named). c .has-area .result ≡ takesDomain (a .d) (namedOf (a .list .now) n)) (c .before .before .named2 .given .1) (c .has-area .ensures)
 
+returns-4 : tie.Need-returns-4
+returns-4 c = search needs
+
 pub takes-domain-spec : {M : Type 1} → statement M
 takes-domain-spec =
     tie.close
@@ -43,6 +49,8 @@ takes-domain-spec =
     enum-known-named
     enum-known-named-2
     has-area-requires
+    enum-told-2
     returns
     returns-2
-    returns-3)
+    returns-3
+    returns-4)

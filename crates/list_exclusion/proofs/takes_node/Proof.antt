@@ -19,6 +19,9 @@ enum-told c = search needs
 enum-told-2 : tie.Need-enum-told-2
 enum-told-2 c = search needs
 
+enum-told-3 : tie.Need-enum-told-3
+enum-told-3 c = search needs
+
 returns : tie.Need-returns
 returns c =
     let a = c .before .before .before .before .args in
@@ -34,6 +37,11 @@ returns-3 c =
     let a = c .before .before .args in
     λ s. sym (ap (λ (n : Named). takesNode (a .node .0) (namedOf s n)) (c .enum-told2 .given .1))
 
+returns-4 : tie.Need-returns-4
+returns-4 c =
+    let a = c .before .before .args in
+    λ s. sym (ap (λ (n : Named). takesNode (a .node .0) (namedOf s n)) (c .enum-told3 .given .1))
+
 pub takes-node-spec : {M : Type 1} → statement M
 takes-node-spec =
     tie.close
@@ -42,6 +50,8 @@ takes-node-spec =
     in-prefix-requires
     enum-told
     enum-told-2
+    enum-told-3
     returns
     returns-2
-    returns-3)
+    returns-3
+    returns-4)

@@ -1,125 +1,91 @@
--- `list_form::form_at` meets its contract: the tests that led to each `return` are the checks of `subobjectVerdict` in their order.
-use Prim.Native.Nat.{ℕ, _+_, _≤_}
-use mathlib.Core.Path.{_≡_, sym, ap, _∙_}
-use native.Mathlib.Omega.{arith}
-use lib.ListN.{length}
+-- `list_form::form_at` meets its contract: the subobject itself, and then in an include list what it carries.
+use mathlib.Core.Path.{_≡_, refl, sym, ap, _∙_}
+use mathlib.Core.List.{List}
+use Prim.Native.Nat.{ℕ}
 use borrow.Author.Needs.{needs}
-use Rattle.model.specs.Subobject.{lengthAt}
-use Rattle.refusal.specs.Refused.{refusal}
-use Rattle.list_form.proofs.FormChecks.{head, head-fits, short, bad-head, past-end, by-field}
+use lib.Dec.{eqb}
+use lib.ListN.{length}
+use Rattle.model.specs.declared.Refusal.{Refusal}
+use Rattle.model.specs.declared.ListKind.{ListKind}
+use Rattle.model.specs.declared.ListKind.the-variants.{Include, Exclude}
+use Rattle.model.specs.declared.Verdict.{Verdict}
+use Rattle.model.specs.declared.Verdict.the-variants.{Pass, Refuse}
+use Rattle.model.specs.Verdict.{_andThen_}
+use Rattle.model.specs.Subobject.{typeAt, plainVerdict, carriedIf, subobjectVerdict}
+use Rattle.laws.proofs.Turns.{passed-first, refused-first}
 use Rattle.list_form.proofs.form_at.Statement.{statement}
 use Rattle.list_form.proofs.form_at.Tie as tie
 
--- what the tests passed say, place by place
-four : (c : tie.Else1) → c .before .before .args .at + 4 ≤ length (c .before .before .args .list .now)
-four c = omega arith
+module _ (s : List ℕ) (end at : ℕ) where
+  plain-refused : (k : ListKind) (r : Refusal) → plainVerdict k s end at ≡ Refuse r → subobjectVerdict k s end at ≡ Refuse r
+  unfolding subobjectVerdict
+  plain-refused Include r e = refused-first (plainVerdict Include s end at) (carriedIf (eqb (typeAt s at) 33) s at) r e
+  plain-refused Exclude r e = e
 
-right-head : (c : tie.Else2) → let a = c .before .before .before .before .before .before .before .args in head (a .kind) (a .list .now) (length (a .list .now)) (a .at) ≡ 0
-right-head c = sym (c .before .head-wrong .ensures) ∙ c .if2 .left
+  plain-alone : plainVerdict Exclude s end at ≡ Pass → subobjectVerdict Exclude s end at ≡ Pass
+  unfolding subobjectVerdict
+  plain-alone e = e
 
-in-list : (c : tie.Else3) → let a = c .before .before .before .before .before .before .before .before .before .args in a .at + lengthAt (a .list .now) (a .at) ≤ length (a .list .now)
-in-list c =
-    let n = c .before .wide .ensures .0 in
-    let h = c .before .before .before .before .before .before .before .before .before .pre .0 in
-    omega arith
+  then-carried : plainVerdict Include s end at ≡ Pass → subobjectVerdict Include s end at ≡ carriedIf (eqb (typeAt s at) 33) s at
+  unfolding subobjectVerdict
+  then-carried e = passed-first (plainVerdict Include s end at) (carriedIf (eqb (typeAt s at) 33) s at) e
 
-sub-left : tie.Need-sub-left
-sub-left c = search needs
+plain-at-requires : tie.Need-plain-at-requires
+plain-at-requires c κs = search needs
 
-refuse-at-requires : tie.Need-refuse-at-requires
-refuse-at-requires c κs = search needs
+enum-known-plain : tie.Need-enum-known-plain
+enum-known-plain c = search needs
 
 returns : tie.Need-returns
 returns c =
-    let a = c .before .before .before .args in
-    c .refuse-at .ensures ∙ sym (short (a .kind) (a .list .now) (length (a .list .now)) (a .at) (omega arith))
+    let a = c .before .before .before .before .before .args in
+    sym (plain-refused (a .list .now) (length (a .list .now)) (a .at) (a .kind) _ (sym (c .before .before .before .plain-at .ensures) ∙ c .before .plain .given .1))
 
-add-n : tie.Need-add-n
-add-n c = search needs
+enum-told : tie.Need-enum-told
+enum-told c = search needs
 
-shared-slice-read-n : tie.Need-shared-slice-read-n
-shared-slice-read-n c = search needs
+enum-told-2 : tie.Need-enum-told-2
+enum-told-2 c = search needs
 
-shared-slice-read-head-wrong : tie.Need-shared-slice-read-head-wrong
-shared-slice-read-head-wrong c = search needs
+enum-told-3 : tie.Need-enum-told-3
+enum-told-3 c = search needs
 
-add-head-wrong : tie.Need-add-head-wrong
-add-head-wrong c = search needs
-
-shared-slice-read-head-wrong-2 : tie.Need-shared-slice-read-head-wrong-2
-shared-slice-read-head-wrong-2 c = search needs
-
-head-wrong-requires : tie.Need-head-wrong-requires
-head-wrong-requires c κs = search needs
-
-refuse-at-requires-2 : tie.Need-refuse-at-requires-2
-refuse-at-requires-2 c κs = search needs
+carried-at-requires : tie.Need-carried-at-requires
+carried-at-requires c κs =
+    let start = c .before .before .before .before .before .before in
+    let a = start .args in
+    let s = a .list .now in
+    (ap (λ (k : ListKind). plainVerdict k s (length s) (a .at)) (sym (c .enum-told3 .given .1)) ∙ sym (c .before .before .before .before .plain-at .ensures) ∙ c .before .before .enum-told .given .1, start .pre .1)
 
 returns-2 : tie.Need-returns-2
 returns-2 c =
-    let a = c .before .before .before .before .before .before .before .before .args in
-    let n = c .before .before .head-wrong .ensures in
-    c .refuse-at2 .ensures
-    ∙ ap (λ (x : ℕ). refusal x (a .at)) n
-    ∙ sym (bad-head (a .kind) (a .list .now) (length (a .list .now)) (a .at) (four (c .before .before .before .before .before .before)) (λ e. c .before .if2 .taken (n ∙ e)))
-
-wide-requires : tie.Need-wide-requires
-wide-requires c κs = search needs
-
-refuse-at-requires-3 : tie.Need-refuse-at-requires-3
-refuse-at-requires-3 c κs = search needs
+    let a = c .before .before .before .before .before .before .args in
+    let s = a .list .now in
+    sym
+    (ap (λ (k : ListKind). subobjectVerdict k s (length s) (a .at)) (c .enum-told2 .given .1)
+    ∙ plain-alone s (length s) (a .at)
+    (ap (λ (k : ListKind). plainVerdict k s (length s) (a .at)) (sym (c .enum-told2 .given .1)) ∙ sym (c .before .before .before .before .plain-at .ensures) ∙ c .before .before .enum-told .given .1))
 
 returns-3 : tie.Need-returns-3
 returns-3 c =
-    let a = c .before .before .before .before .before .before .before .before .before .before .args in
-    let n = c .before .before .wide .ensures .0 in
-    let h = c .before .before .before .before .before .before .before .before .before .before .pre .0 in
-    c .refuse-at3 .ensures
-    ∙ sym (past-end (a .kind) (a .list .now) (length (a .list .now)) (a .at) (four (c .before .before .before .before .before .before .before .before)) (right-head (c .before .before .before)) (omega arith))
-
-field-wrong-requires : tie.Need-field-wrong-requires
-field-wrong-requires c κs =
-    let a = c .before .before .before .before .before .before .before .before .before .args in
-    record {
-      kind = a .kind;
-      long = four (c .before .before .before .before .before .before .before);
-      inside = in-list c;
-      fits = head-fits (a .kind) (a .list .now) (length (a .list .now)) (a .at) (right-head (c .before .before));
-    }
-
-refuse-at-requires-4 : tie.Need-refuse-at-requires-4
-refuse-at-requires-4 c κs = search needs
-
-returns-4 : tie.Need-returns-4
-returns-4 c =
-    let a = c .before .before .before .before .before .before .before .before .before .before .before .before .args in
-    c .refuse-at4 .ensures
-    ∙ sym (by-field (a .kind) (a .list .now) (length (a .list .now)) (a .at) (four (c .before .before .before .before .before .before .before .before .before .before)) (right-head (c .before .before .before .before .before)) (sym (c .before .if4 .taken) ∙ c .before .before .field-wrong .ensures) (in-list (c .before .before .before)))
-
-returns-5 : tie.Need-returns-5
-returns-5 c =
-    let a = c .before .before .before .before .before .before .before .before .before .before .before .args in
-    sym (by-field (a .kind) (a .list .now) (length (a .list .now)) (a .at) (four (c .before .before .before .before .before .before .before .before .before)) (right-head (c .before .before .before .before)) (sym (c .if4 .left) ∙ c .before .field-wrong .ensures) (in-list (c .before .before)))
+    let a = c .before .before .before .before .before .before .before .args in
+    let s = a .list .now in
+    c .carried-at .ensures
+    ∙ sym
+    (ap (λ (k : ListKind). subobjectVerdict k s (length s) (a .at)) (c .before .enum-told3 .given .1)
+    ∙ then-carried s (length s) (a .at)
+    (ap (λ (k : ListKind). plainVerdict k s (length s) (a .at)) (sym (c .before .enum-told3 .given .1)) ∙ sym (c .before .before .before .before .before .plain-at .ensures) ∙ c .before .before .before .enum-told .given .1))
 
 pub form-at-spec : {M : Type 1} → statement M
 form-at-spec =
     tie.close
     (tie.spec
-    sub-left
-    refuse-at-requires
+    plain-at-requires
+    enum-known-plain
     returns
-    add-n
-    shared-slice-read-n
-    shared-slice-read-head-wrong
-    add-head-wrong
-    shared-slice-read-head-wrong-2
-    head-wrong-requires
-    refuse-at-requires-2
+    enum-told
+    enum-told-2
+    enum-told-3
+    carried-at-requires
     returns-2
-    wide-requires
-    refuse-at-requires-3
-    returns-3
-    field-wrong-requires
-    refuse-at-requires-4
-    returns-4
-    returns-5)
+    returns-3)

@@ -14,7 +14,9 @@ with-asn-requires c κs = search needs
 returns : tie.Need-returns
 returns c =
     let a = c .before .before .before .args in
-    stepped-on _ _ _ (c .before .with-asn .ensures) (ap (M.readSystem (readingInput (a .profile .now)) (a .at) (stateOf (a .st)) (a .asn)) (c .if1 .taken))
+    λ list standing.
+    stepped-on list (a .at) _ _ _ (c .before .with-asn .ensures .1 list (a .at) standing)
+    (ap (M.readSystem (readingInput (a .profile .now)) (a .at) (stateOf list (a .at) (a .st)) (a .asn)) (c .if1 .taken))
 
 of-system-requires : tie.Need-of-system-requires
 of-system-requires c κs = search needs
@@ -26,13 +28,15 @@ returns-2 : tie.Need-returns-2
 returns-2 c =
     let a = c .before .before .before .before .before .args in
     let R = readingInput (a .profile .now) in
-    let next = M.withSystem (stateOf (a .st)) (a .asn) in
-    subst (ReadStepIs (c .name-found .result))
-    (ap (λ (x : M.State). nameFound (a .at) x (c .before .of-system .result)) ((c .before .before .before .with-asn .ensures) .means)
+    λ list standing.
+    let next = M.withSystem (stateOf list (a .at) (a .st)) (a .asn) in
+    let set = c .before .before .before .with-asn .ensures .1 list (a .at) standing in
+    subst (ReadStepIs list (a .at) (c .name-found .result))
+    (ap (λ (x : M.State). nameFound (a .at) x (c .before .of-system .result)) (set .means)
     ∙ ap (nameFound (a .at) next) (c .before .of-system .ensures)
     ∙ sym (named-found (a .at) next (M.ofSystem (R .domains) (a .asn)))
-    ∙ sym (ap (M.readSystem R (a .at) (stateOf (a .st)) (a .asn)) (c .before .before .if1 .left)))
-    (c .name-found .ensures)
+    ∙ sym (ap (M.readSystem R (a .at) (stateOf list (a .at) (a .st)) (a .asn)) (c .before .before .if1 .left)))
+    (c .name-found .ensures list (set .standing))
 
 pub read-system-spec : {M : Type 1} → statement M
 read-system-spec =

@@ -35,25 +35,26 @@ returns c =
     let a = start .args in
     let read = c .before .before .before .before .read-list in
     refused-is (a .profile .now) (a .asked) (a .include .now) (a .exclude .now) _ _ (c .refused .ensures)
-    (sequence-passed (request start) (start .pre) ∙ sym (read .ensures .means) ∙ ap (λ (v : Verdict). provided v (good (R.stateStops (read .result .state)))) (c .before .before .verdict .given .1))
+    (sequence-passed (request start) (start .pre) ∙ sym (read .ensures .means) ∙ ap (λ (v : Verdict). provided v (good (R.stateStops (a .include .now) (read .result .state)))) (c .before .before .verdict .given .1))
 
 enum-told : tie.Need-enum-told
 enum-told c = search needs
 
 returns-2 : tie.Need-returns-2
 returns-2 c =
-    let start = c .before .before .before .before .before .before .before .before .before .before .before .before .before in
+    let start = c .before .before .before .before .before .before .before .before .before .before .before .before .before .before in
     let a = start .args in
-    let read = c .before .before .before .before .before .read-list in
+    let read = c .before .before .before .before .before .before .read-list in
     let st = read .result .state in
-    let means = sym (read .ensures .means) ∙ ap (λ (v : Verdict). provided v (good (R.stateStops st))) (c .before .before .before .enum-told .given .1) in
+    let means = sym (read .ensures .means) ∙ ap (λ (v : Verdict). provided v (good (R.stateStops (a .include .now) st))) (c .before .before .before .before .enum-told .given .1) in
+    let kept = read .ensures .sound (c .before .before .before .before .enum-told .given .1) in
     record {
       means = sym (sequence-passed (request start) (start .pre) ∙ means);
       source-kept = refl;
       destination-kept = refl;
       limits-kept = refl;
       in-first = refl;
-      ready = λ e. ready-query (request start) st (a .asked .source) (a .asked .destination) (passed-request (request start) (start .pre)) (read .ensures .sound (c .before .before .before .enum-told .given .1)) means;
+      ready = λ e. ready-query (request start) st (a .asked .source) (a .asked .destination) (passed-request (request start) (start .pre)) (kept .0) (kept .1) means;
       none = λ x e. absurd (refuse-not-pass x (sym e));
     }
 

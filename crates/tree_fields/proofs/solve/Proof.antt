@@ -6,6 +6,7 @@ use Rattle.model.specs.Profile.{layoutIn}
 use Rattle.model.specs.Request.{Request}
 use Rattle.model.specs.Answers.{refused4}
 use Rattle.model.specs.Calls.{Outcome, nothing}
+use Rattle.laws.specs.Lists.{listsOf}
 use Rattle.request.specs.Query.{queryStops, searchFor, inRound, roundFor}
 use Rattle.request.specs.CheckedRequest.{requestFor}
 use Rattle.request.proofs.Requests.{refused-request, accepted-request, round-request, search-request}
@@ -50,14 +51,15 @@ returns-2 : tie.Need-returns-2
 returns-2 c =
     let start = c .before .before .before .before .before .before .before .before .before .before .before in
     let a = start .args in
+    let lists = listsOf (a .include .now) (a .exclude .now) in
     let r = c .before .before .before .before .before .before .before .check-request .result in
     let is = c .before .before .before .before .before .before .before .check-request .ensures in
     let passes = c .before .before .before .before .before .enum-told .given .1 in
-    let l = c .solve-query .last .1 .1 .1 .1 in
+    let l = c .solve-query .last .1 .1 .1 .1 .1 in
     subst (λ (o : Outcome TreeEntry). TreeResultIs o (a .room) (l .0) (l .1 .0) (l .1 .1 .0) (c .solve-query .result))
     (sym
-    (tree-accepted (request start) (a .room) (queryStops (r .query)) (roundFor (layoutIn (a .profile .now)) (a .profile .now) (a .exclude .now) (r .query))
-    (searchFor (layoutIn (a .profile .now)) (a .profile .now) (a .exclude .now) (inRound (roundFor (layoutIn (a .profile .now)) (a .profile .now) (a .exclude .now) (r .query)) (r .query)))
+    (tree-accepted (request start) (a .room) (queryStops (a .include .now) (r .query)) (roundFor (layoutIn (a .profile .now)) (a .profile .now) lists (r .query))
+    (searchFor (layoutIn (a .profile .now)) (a .profile .now) lists (inRound (roundFor (layoutIn (a .profile .now)) (a .profile .now) lists (r .query)) (r .query)))
     (accepted-request (a .profile .now) (a .asked) (a .include .now) (a .exclude .now) r is passes)
     (round-request (a .profile .now) (a .asked) (a .include .now) (a .exclude .now) r is)
     (search-request (a .profile .now) (a .asked) (a .include .now) (a .exclude .now) r is)))

@@ -20,7 +20,7 @@ allowed-at-requires c κs = search needs
 
 returns : tie.Need-returns
 returns c =
-    let a = c .before .before .before .before .before .before .args in
+    let a = c .before .before .before .before .before .before .before .args in
     let L = layoutOf (a .layout) in
     reach-none 4294967295 refl
     ∙ sym
@@ -30,18 +30,18 @@ returns c =
 
 tail-range-requires : tie.Need-tail-range-requires
 tail-range-requires c κs =
-    let pre = c .before .before .before .before .before .before .before .before .before .pre in
+    let pre = c .before .before .before .before .before .before .before .before .before .before .pre in
     (pre .0, pre .1 .1 .0)
 
 best-from-requires : tie.Need-best-from-requires
 best-from-requires c κs =
-    let pre = c .before .before .before .before .before .before .before .before .before .before .pre in
+    let pre = c .before .before .before .before .before .before .before .before .before .before .before .pre in
     let range = c .tail-range .ensures in
     (pre .0, ((range .order, range .within, pre .1 .0 .1), pre .1 .1 .1))
 
 returns-2 : tie.Need-returns-2
 returns-2 c =
-    let a = c .before .before .before .before .before .before .before .before .before .before .before .args in
+    let a = c .before .before .before .before .before .before .before .before .before .before .before .before .args in
     let L = layoutOf (a .layout) in
     let f : Hop → Reach = wayOn (a .asked) (slice (a .leg .next) (a .leg .end) (a .addresses .now)) (slice (a .leg .next) (a .leg .end) (a .reaches .now)) in
     c .best-from .ensures

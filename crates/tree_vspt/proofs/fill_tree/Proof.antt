@@ -2,6 +2,7 @@
 use mathlib.Core.Path.{_≡_, _∙_}
 use Prim.Native.Nat.{suc, _+_, _-_}
 use native.Mathlib.Omega.{arith}
+use Rattle.laws.specs.Lists.{listsOf}
 use Rattle.profile_records.specs.Layout.{layoutOf}
 use Rattle.tree_vspt.proofs.Filling.{mid-long, written-stands, before-long}
 use borrow.Author.Needs.{needs}
@@ -16,30 +17,32 @@ fill-from-requires c κs = search needs
 
 fill-before-requires : tie.Need-fill-before-requires
 fill-before-requires c κs =
-    let start = c .before .before .before .before .before in
+    let start = c .before .before .before .before .before .before in
     let a = start .args in
+    let lists = listsOf (a .include .now) (a .exclude .now) in
     let pre = start .pre in
     let some = pre .0 .1 .some-domain in
     let whole : 0 + suc (a .q .count - 1) ≡ a .q .count = omega arith in
     let w = c .before .fill-from .ensures in (
       (pre .0 .0, pre .0 .1, some),
       (
-        (pre .1 .0, mid-long (layoutOf (a .layout)) (a .s .now) (a .exclude .now) (a .q) (pre .0 .0 .cheap) (pre .0 .1) _ _ _ _ (pre .1 .0) 0 (a .q .count - 1) whole (a .reaches .now) _ (pre .1 .1) w),
-        written-stands (layoutOf (a .layout)) (a .s .now) (a .exclude .now) (a .q) (pre .0 .0 .cheap) (pre .0 .1) _ _ _ _ (pre .1 .0) 0 (a .q .count - 1) whole (a .reaches .now) _ (pre .1 .1) w,
+        (pre .1 .0, mid-long (layoutOf (a .layout)) (a .s .now) lists (a .q) (pre .0 .0 .cheap) (pre .0 .1) _ _ _ _ (pre .1 .0) 0 (a .q .count - 1) whole (a .reaches .now) _ (pre .1 .1) w),
+        written-stands (layoutOf (a .layout)) (a .s .now) lists (a .q) (pre .0 .0 .cheap) (pre .0 .1) _ _ _ _ (pre .1 .0) 0 (a .q .count - 1) whole (a .reaches .now) _ (pre .1 .1) w,
       ),
     )
 
 returns : tie.Need-returns
 returns c =
-    let start = c .before .before .before .before .before .before in
+    let start = c .before .before .before .before .before .before .before in
     let a = start .args in
+    let lists = listsOf (a .include .now) (a .exclude .now) in
     let pre = start .pre in
     let some = pre .0 .1 .some-domain in
     let whole : 0 + suc (a .q .count - 1) ≡ a .q .count = omega arith in
     let behind = c .before .before .fill-from .ensures in
-    let mid = mid-long (layoutOf (a .layout)) (a .s .now) (a .exclude .now) (a .q) (pre .0 .0 .cheap) (pre .0 .1) _ _ _ _ (pre .1 .0) 0 (a .q .count - 1) whole (a .reaches .now) _ (pre .1 .1) behind in (
+    let mid = mid-long (layoutOf (a .layout)) (a .s .now) lists (a .q) (pre .0 .0 .cheap) (pre .0 .1) _ _ _ _ (pre .1 .0) 0 (a .q .count - 1) whole (a .reaches .now) _ (pre .1 .1) behind in (
       c .fill-before .ensures .1,
-      before-long (layoutOf (a .layout)) (a .s .now) (a .exclude .now) (a .q) (pre .0 .0 .cheap) (pre .0 .1) _ _ _ _ (pre .1 .0) 1 some _ _ mid (c .fill-before .ensures .0) ∙ mid,
+      before-long (layoutOf (a .layout)) (a .s .now) lists (a .q) (pre .0 .0 .cheap) (pre .0 .1) _ _ _ _ (pre .1 .0) 1 some _ _ mid (c .fill-before .ensures .0) ∙ mid,
     )
 
 pub fill-tree-spec : {M : Type 1} → statement M

@@ -106,8 +106,22 @@ impl Drawn {
         things[self.below(things.len() as u32) as usize]
     }
 
-    /// Subobjects of every type, of right form in either list; of their top bits
-    /// these may be set.
+    /// An include list of right form, which may have EXRS.
+    pub fn include(&mut self) -> Vec<u8> {
+        let mut list = self.list(0);
+        for _ in 0..self.below(3) {
+            let (inside, after) = (self.list(0x80), self.list(0));
+            let length = 4 + inside.len();
+            if (5..=252).contains(&length) && list.len() + length + after.len() <= 1024 {
+                list.extend([33, length as u8, 0, self.one_of(&[0, 9])]);
+                list.extend([inside, after].concat());
+            }
+        }
+        list
+    }
+
+    /// Subobjects of every type but EXRS, of right form in either list; of their
+    /// top bits these may be set.
     pub fn list(&mut self, top: u8) -> Vec<u8> {
         let pieces: [&[u8]; 6] = [
             &[1, 8, 10, 0, 0, 1, 32, 1],

@@ -33,7 +33,7 @@ element-copy-out-if1 c =
 returns : tie.Need-returns Inv-loop μ-loop
 returns c =
     let a = c .before .before .before .before .args in
-    sym (held (a .t1) (a .d .0) (c .before .before .before .loop .i) (c .before .before .loop-test .taken) (c .if1 .taken))
+    λ list. sym (held list (a .t1) (a .d .0) (c .before .before .before .loop .i) (c .before .before .loop-test .taken) (c .if1 .taken))
 
 add-i : tie.Need-add-i Inv-loop μ-loop
 add-i c = search needs
@@ -48,7 +48,7 @@ returns-2 : tie.Need-returns-2 Inv-loop μ-loop
 returns-2 c =
     let a = c .before .before .args in
     let end = c .loop-test .left in
-    sym (unheld (a .t1) (a .d .0) (λ i h e. c .before .loop .inv .1 i (omega arith) e))
+    λ list. sym (unheld list (a .t1) (a .d .0) (λ i h e. c .before .loop .inv .1 i (omega arith) e))
 
 pub holds-spec : {M : Type 1} → statement M
 holds-spec =

@@ -1,6 +1,7 @@
--- `list_reader::read::copy_sequence` meets its contract. The loop's invariant: each buffer has its part of the stops passed, and the rest as it was. The measure is what is left.
+-- `list_reader::read::copy_sequence` meets its contract. The loop's invariant: each buffer has its part of the stops passed, wherever their EXRS stand, and the rest as it was. The measure is what is left.
 use Prim.Native.Nat.{ℕ, _≤_, _-_}
 use mathlib.Core.Path.{_≡_, refl, sym}
+use mathlib.Core.List.{List, []}
 use native.Mathlib.Omega.{arith}
 use borrow.Author.Needs.{needs}
 use lib.ListN.{length}
@@ -22,7 +23,7 @@ node p = pinNode (p .pin)
 
 abbrev Inv-loop : tie.InvT-loop
 Inv-loop domains₀ pinned₀ pins₀ st n i₀ domains pinned pins i =
-    (i ≤ n) × Copied (part st domain) domains₀ domains i × Copied (part st mark) pinned₀ pinned i × Copied (part st node) pins₀ pins i
+    (i ≤ n) × ((list : List ℕ) → Copied (part list st domain) domains₀ domains i × Copied (part list st mark) pinned₀ pinned i × Copied (part list st node) pins₀ pins i)
 
 abbrev μ-loop : tie.MeasureT-loop
 μ-loop domains₀ pinned₀ pins₀ st n i₀ domains pinned pins i = n - i
@@ -39,15 +40,15 @@ long c =
     let a = c .before .args in
     let l = c .loop in
     let e = room (c .before) in (
-      part-long (a .t1) domain (a .domains .now) (l .domains) (l .i) (l .inv .1) (e .0) (l .inv .0),
-      part-long (a .t1) mark (a .pinned .now) (l .pinned) (l .i) (l .inv .2) (e .1) (l .inv .0),
-      part-long (a .t1) node (a .pins .now) (l .pins) (l .i) (l .inv .3) (e .2) (l .inv .0),
+      part-long [] (a .t1) domain (a .domains .now) (l .domains) (l .i) (l .inv .1 [] .0) (e .0) (l .inv .0),
+      part-long [] (a .t1) mark (a .pinned .now) (l .pinned) (l .i) (l .inv .1 [] .1) (e .1) (l .inv .0),
+      part-long [] (a .t1) node (a .pins .now) (l .pins) (l .i) (l .inv .1 [] .2) (e .2) (l .inv .0),
     )
 
 loop-holds : tie.Need-loop-holds Inv-loop μ-loop
 loop-holds c =
     let a = c .args in
-    (omega arith, copied-none (part (a .t1) domain) (a .domains .now), copied-none (part (a .t1) mark) (a .pinned .now), copied-none (part (a .t1) node) (a .pins .now))
+    (omega arith, λ list. (copied-none (part list (a .t1) domain) (a .domains .now), copied-none (part list (a .t1) mark) (a .pinned .now), copied-none (part list (a .t1) node) (a .pins .now)))
 
 mul-domains : tie.Need-mul-domains Inv-loop μ-loop
 mul-domains c =
@@ -107,9 +108,11 @@ loop-again c =
     let test = c .before .loop-test .taken in
     let clean = c .before .before .before .pre .0 .clean (l .i) test in (
       omega arith,
-      part-more (a .t1) domain (a .domains .now) (l .domains) (l .i) (l .inv .1) (e .0) _ test refl refl,
-      part-more (a .t1) mark (a .pinned .now) (l .pinned) (l .i) (l .inv .2) (e .1) _ test refl (sym (clean .0)),
-      part-more (a .t1) node (a .pins .now) (l .pins) (l .i) (l .inv .3) (e .2) _ test refl (sym (clean .1)),
+      λ list. (
+        part-more list (a .t1) domain (a .domains .now) (l .domains) (l .i) (l .inv .1 list .0) (e .0) _ test refl refl,
+        part-more list (a .t1) mark (a .pinned .now) (l .pinned) (l .i) (l .inv .1 list .1) (e .1) _ test refl (sym (clean .0)),
+        part-more list (a .t1) node (a .pins .now) (l .pins) (l .i) (l .inv .1 list .2) (e .2) _ test refl (sym (clean .1)),
+      ),
     )
 
 same-length : tie.Need-same-length Inv-loop μ-loop
@@ -127,10 +130,11 @@ returns c =
     let l = c .before .loop in
     let e = room (c .before .before) in
     let end : l .i ≡ a .t1 .count = omega (arith, c .loop-test .left, l .inv .0) in
+    λ list.
     record {
-      in-domains = part-whole (a .t1) domain (a .domains .now) (l .domains) (l .i) (l .inv .1) (e .0) end;
-      in-marks = part-whole (a .t1) mark (a .pinned .now) (l .pinned) (l .i) (l .inv .2) (e .1) end;
-      in-nodes = part-whole (a .t1) node (a .pins .now) (l .pins) (l .i) (l .inv .3) (e .2) end;
+      in-domains = part-whole list (a .t1) domain (a .domains .now) (l .domains) (l .i) (l .inv .1 list .0) (e .0) end;
+      in-marks = part-whole list (a .t1) mark (a .pinned .now) (l .pinned) (l .i) (l .inv .1 list .1) (e .1) end;
+      in-nodes = part-whole list (a .t1) node (a .pins .now) (l .pins) (l .i) (l .inv .1 list .2) (e .2) end;
     }
 
 pub copy-sequence-spec : {M : Type 1} → statement M

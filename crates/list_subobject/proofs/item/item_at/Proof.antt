@@ -32,7 +32,7 @@ returns c =
       next = n;
       further = omega arith;
       inside = omega arith;
-      area = named .area;
+      there = named .there;
     }
 
 pub item-at-spec : {M : Type 1} → statement M

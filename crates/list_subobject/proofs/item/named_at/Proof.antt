@@ -4,7 +4,8 @@ use mathlib.Core.Path.{sym, ap, _∙_}
 use native.Mathlib.Omega.{arith}
 use lib.ListN.{getD}
 use Rattle.model.specs.Bytes.{part}
-use Rattle.model.specs.Subobject.{prefix, system, area}
+use Rattle.model.specs.Subobject.{prefix, system, area, stretch}
+use Rattle.laws.proofs.Exrs.{named-33}
 use Rattle.list_subobject.proofs.FormLaws.{room-1, room-5, room-6, room-7, named-1, named-5, named-6, named-7, named-32}
 use borrow.Author.Needs.{needs}
 use Rattle.list_subobject.proofs.item.named_at.Statement.{statement}
@@ -31,7 +32,7 @@ returns c =
     let s = a .list .now in
     record {
       named = ap (λ (x : ℕ). prefix x (getD s (a .at + 6) 0)) (c .before .u32-at .ensures) ∙ sym (named-1 s (a .at) (c .before .before .if1 .taken));
-      area = tt;
+      there = tt;
     }
 
 add-u32-at-2 : tie.Need-add-u32-at-2
@@ -44,7 +45,7 @@ returns-2 : tie.Need-returns-2
 returns-2 c =
     let a = c .before .before .before .before .before .args in
     let s = a .list .now in
-    record { named = ap system (c .u32-at2 .ensures) ∙ sym (named-5 s (a .at) (c .before .if2 .taken)); area = tt }
+    record { named = ap system (c .u32-at2 .ensures) ∙ sym (named-5 s (a .at) (c .before .if2 .taken)); there = tt }
 
 add-start : tie.Need-add-start
 add-start c = search needs
@@ -52,7 +53,7 @@ add-start c = search needs
 returns-3 : tie.Need-returns-3
 returns-3 c =
     let a = c .before .before .before .before .before .args in
-    record { named = sym (named-6 (a .list .now) (a .at) (c .if3 .taken)); area = omega (arith, room-6 (c .before .before .before .before .before .pre) (c .if3 .taken)) }
+    record { named = sym (named-6 (a .list .now) (a .at) (c .if3 .taken)); there = omega (arith, room-6 (c .before .before .before .before .before .pre) (c .if3 .taken)) }
 
 add-wide : tie.Need-add-wide
 add-wide c = search needs
@@ -72,7 +73,28 @@ returns-4 c =
     let n = c .wide .ensures .0 in
     record {
       named = ap (λ (x : ℕ). area (record { kind = 2; bytes = part s (a .at + 4) x })) n ∙ sym (named-7 s (a .at) e);
-      area = omega arith;
+      there = omega arith;
+    }
+
+add-wide-2 : tie.Need-add-wide-2
+add-wide-2 c = search needs
+
+shared-slice-read-wide-2 : tie.Need-shared-slice-read-wide-2
+shared-slice-read-wide-2 c = search needs
+
+wide-requires-2 : tie.Need-wide-requires-2
+wide-requires-2 c κs = search needs
+
+returns-5 : tie.Need-returns-5
+returns-5 c =
+    let start = c .before .before .before .before .before .before .before .before .before in
+    let a = start .args in
+    let s = a .list .now in
+    let n = c .wide2 .ensures .0 in
+    let inside = start .pre .inside in
+    record {
+      named = ap (λ (x : ℕ). stretch (part s (a .at) x)) n ∙ sym (named-33 s (a .at) (c .before .before .if5 .taken));
+      there = omega arith;
     }
 
 add-u16-at : tie.Need-add-u16-at
@@ -84,13 +106,13 @@ u16-at-requires c κs = search needs
 cast-asn : tie.Need-cast-asn
 cast-asn c = search needs
 
-returns-5 : tie.Need-returns-5
-returns-5 c =
-    let a = c .before .before .before .before .before .before .before .args in
+returns-6 : tie.Need-returns-6
+returns-6 c =
+    let a = c .before .before .before .before .before .before .before .before .args in
     let s = a .list .now in
     record {
-      named = ap system (c .u16-at .ensures) ∙ sym (named-32 s (a .at) (c .before .before .before .before .if1 .left) (c .before .before .before .if2 .left) (c .before .before .if3 .left) (c .before .if4 .left));
-      area = tt;
+      named = ap system (c .u16-at .ensures) ∙ sym (named-32 s (a .at) (c .before .before .before .before .before .if1 .left) (c .before .before .before .before .if2 .left) (c .before .before .before .if3 .left) (c .before .before .if4 .left) (c .before .if5 .left));
+      there = tt;
     }
 
 pub named-at-spec : {M : Type 1} → statement M
@@ -112,7 +134,11 @@ named-at-spec =
     shared-slice-read-wide
     wide-requires
     returns-4
+    add-wide-2
+    shared-slice-read-wide-2
+    wide-requires-2
+    returns-5
     add-u16-at
     u16-at-requires
     cast-asn
-    returns-5)
+    returns-6)

@@ -26,9 +26,8 @@ returns c = search needs
 
 returns-2 : tie.Need-returns-2
 returns-2 c =
-    let a = c .before .before .before .before .before .before .before .before .before .args in
-    refused-profile (now (a .profile)) (now (a .domains)) (now (a .pinned)) (now (a .pins)) (now (a .out)) _
-    (sym (c .before .before .before .verdict-on .ensures) ∙ c .before .verdict .given .1)
+    let a = c .before .before .before .before .before .before .before .before .before .before .before .args in
+    refused-profile (now (a .profile)) (now (a .domains)) (now (a .pinned)) (now (a .pins)) (now (a .counts)) (now (a .exrs)) (now (a .out)) _ (sym (c .before .before .before .verdict-on .ensures) ∙ c .before .verdict .given .1)
 
 pub write-list-spec : {M : Type 1} → statement M
 write-list-spec =

@@ -1,11 +1,11 @@
--- `list_writer::writer::same_system` meets its contract: by whether the domain is the first.
+-- `list_writer::sizes::same_system` meets its contract: by whether the domain is the first.
 use Prim.Native.Nat.{ℕ, zero, suc}
 use mathlib.Core.Path.{_≡_, refl}
 use lib.Dec.{eqb}
 use borrow.Author.Needs.{needs}
 use Rattle.list_writer.specs.Writing.{systemAgain}
-use Rattle.list_writer.proofs.writer.same_system.Statement.{statement}
-use Rattle.list_writer.proofs.writer.same_system.Tie as tie
+use Rattle.list_writer.proofs.sizes.same_system.Statement.{statement}
+use Rattle.list_writer.proofs.sizes.same_system.Tie as tie
 
 later : (i before asn : ℕ) → (i ≡ 0 → ⊥) → eqb asn before ≡ systemAgain i before asn
 later zero before asn h = absurd (h refl)
