@@ -6,9 +6,9 @@ use std::time::{Duration, Instant};
 
 /// Odd, so that the median is one of the rounds.
 const ROUNDS: usize = 301;
-const WARM_UP: Duration = Duration::from_millis(200);
+const WARM_UP: Duration = Duration::from_millis(100);
 /// Long beside what it costs to read the clock.
-const ROUND: Duration = Duration::from_millis(2);
+const ROUND: Duration = Duration::from_millis(1);
 
 /// Prints the time of one call of each and their ratio. Both must give the
 /// same answer.

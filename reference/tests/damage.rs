@@ -1,6 +1,6 @@
 //! A profile with one thing wrong gets the number and place of that thing.
 
-mod common;
+use crate::common;
 use reference::generate;
 use std::collections::BTreeMap;
 

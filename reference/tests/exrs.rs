@@ -2,7 +2,7 @@
 //! the round comes up often, the search agrees with the listing of every path,
 //! and so do the calls through a PCReq.
 
-mod common;
+use crate::common;
 use common::desired::{any_desired, inside_exrs, Decided, Outcomes};
 use common::{first, listing, next, tree};
 use reference::generate;

@@ -1,7 +1,7 @@
 //! Messages made from a seed: each gets the answer that belongs to the way it
 //! was made, every number comes up, and what isn't a result stays as it was.
 
-mod common;
+use crate::common;
 use common::replies::{read_into, write_into, Fields};
 use reference::generate::{self, PcRepFields, PcReqCase, Told};
 use reference::PcReq;

@@ -1,6 +1,6 @@
 //! The fast search against the listing of every path, on small requests.
 
-mod common;
+use crate::common;
 use reference::generate::{self, RequestCase};
 use reference::plain::Plain;
 

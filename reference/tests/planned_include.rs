@@ -1,6 +1,6 @@
 //! Include lists whose meaning or fault is known from how they were made.
 
-mod common;
+use crate::common;
 use reference::generate;
 use reference::generate::PlannedInclude;
 use std::collections::BTreeMap;

@@ -1,6 +1,6 @@
 //! What is written is read back as the same sequence.
 
-mod common;
+use crate::common;
 use reference::generate;
 
 #[test]

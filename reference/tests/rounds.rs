@@ -2,7 +2,7 @@
 //! agrees with the listing of every path, and each round is what a request
 //! without desired exclusions gets.
 
-mod common;
+use crate::common;
 use common::desired::{in_round, Decided, Outcomes};
 use common::{first, listing, next, tree};
 use reference::generate;

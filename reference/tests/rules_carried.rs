@@ -1,7 +1,7 @@
 //! The rules for the calls through a PCReq (document 02's request [3]), on
 //! profile W and messages typed in by hand.
 
-mod common;
+use crate::common;
 use common::messages::*;
 use common::{profile_w, B100, OLD, P as NODE_P, Q, S, SHORT, T, U, Z};
 use reference::PcReq;

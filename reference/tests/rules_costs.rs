@@ -1,7 +1,7 @@
 //! The rules for wide costs (document 02's request [4]): their limit, totals that
 //! are no floats, and bounds beside them.
 
-mod common;
+use crate::common;
 use common::rows::row;
 use common::*;
 use reference::generate;

@@ -2,7 +2,7 @@
 //! they belong to, and how they are read and written. Lists are typed byte by
 //! byte.
 
-mod common;
+use crate::common;
 use common::messages::hex;
 use common::*;
 use reference::generate::Reading;

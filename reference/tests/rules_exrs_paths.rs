@@ -1,7 +1,7 @@
 //! What EXRS take away (document 02's request [5]), on profile W: the entry node
 //! or the domain of one stretch, in which round, and nothing else.
 
-mod common;
+use crate::common;
 use common::messages::hex;
 use common::*;
 use reference::series::{reference_series, series, Call};

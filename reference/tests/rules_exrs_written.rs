@@ -1,7 +1,7 @@
 //! The rules for EXRS that are written (document 02's request [5]): where they
 //! stand in the list, and each cause of 35.
 
-mod common;
+use crate::common;
 use common::messages::hex;
 use common::*;
 

@@ -1,6 +1,6 @@
 //! The rules for lists, each on a list made by hand for it.
 
-mod common;
+use crate::common;
 use common::*;
 use reference::generate::Reading;
 

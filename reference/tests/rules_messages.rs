@@ -2,7 +2,7 @@
 //! in by hand. Those for the calls through one are in `rules_carried.rs`, those
 //! for a PCRep in `rules_replies.rs`.
 
-mod common;
+use crate::common;
 use common::messages::*;
 use common::{OLD, S, SHORT, Z};
 

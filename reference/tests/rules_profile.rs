@@ -1,6 +1,6 @@
 //! The rules for profiles, each on a file made by hand for it.
 
-mod common;
+use crate::common;
 use common::*;
 
 /// A place in a domain or hop record, with what to write there.

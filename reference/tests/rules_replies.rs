@@ -1,7 +1,7 @@
 //! The rules for reading a PCRep (document 02's request [3]), on messages typed
 //! in by hand.
 
-mod common;
+use crate::common;
 use common::messages::*;
 use common::replies::*;
 

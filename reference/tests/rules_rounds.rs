@@ -1,7 +1,7 @@
 //! The rules of the two rounds (document 02's request [1]), on profile W and on
 //! small profiles.
 
-mod common;
+use crate::common;
 use common::*;
 use reference::series::{reference_series, series, Call};
 use reference::Request;

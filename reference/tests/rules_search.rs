@@ -1,6 +1,6 @@
 //! The rules for requests, the tree and the paths, on profile W.
 
-mod common;
+use crate::common;
 use common::*;
 use reference::Request;
 

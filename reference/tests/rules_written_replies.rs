@@ -1,7 +1,7 @@
 //! The rules for writing a PCRep (document 02's request [3]), on fields typed in
 //! by hand.
 
-mod common;
+use crate::common;
 use common::messages::hex;
 use common::replies::*;
 use reference::Reply;

@@ -1,6 +1,6 @@
 //! The largest profile and the one with the most shortest paths.
 
-mod common;
+use crate::common;
 use reference::generate::{self, EQUAL_PATHS_WIDTHS};
 use reference::{reference_series, series, Call, Question, ShortestPaths};
 use std::collections::HashMap;

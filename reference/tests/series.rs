@@ -1,6 +1,6 @@
 //! A run of first and next against document 01's book.
 
-mod common;
+use crate::common;
 use common::{ask, profile_w, P, Q, S, SHORT, T, U, Z};
 use reference::generate;
 use reference::series::{reference_series, series, Call};

@@ -1,6 +1,6 @@
 //! Document 01's worked cases on profile W, one test each.
 
-mod common;
+use crate::common;
 use common::*;
 
 /// Paths of one total, found in the first round.
