@@ -36,7 +36,7 @@ extern "C" {
  *    12  class or a count out of range
  *    13  length not 12 + 20 x (domains + hops)
  *  then each domain record in turn
- *    14  malformed
+ *    14  malformed; so is one of AS 0 or 23456
  *    15  out of order, or after a record of area kind 0 of its AS
  *    16  AS outside the reserved ranges in class 0, inside them in class 1
  *  then each hop record in turn
@@ -93,8 +93,8 @@ uint32_t yq_check_profile(const uint8_t *profile, size_t profile_count,
  *    26  area length of type 7 not 1 to 13
  *    25  length not the type's; of an EXRS under 4
  *    23  length past the list's end
- *    26  prefix length of type 1 not 32, padding of type 7 not zero, or nothing
- *        inside an EXRS
+ *    26  prefix length of type 1 not 32, an AS that is 0 or 23456, padding of
+ *        type 7 not zero, or nothing inside an EXRS
  *    23 to 26  inside an EXRS, up to its end, each subobject in turn: as in an
  *        exclude list (yq_tree), so another EXRS is 24
  *  then the meaning of each subobject in turn

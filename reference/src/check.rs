@@ -67,7 +67,9 @@ fn domain_well_formed(record: &Record) -> bool {
         _ => false,
     };
     // The area bytes after the length and the last byte are one run of zeros.
-    length_fits && record[6 + length..].iter().all(|&b| b == 0)
+    length_fits
+        && record[6 + length..].iter().all(|&b| b == 0)
+        && !reserved::nobodys(u32_at(record, 0))
 }
 
 /// Ascending records keep an AS together with its kind 0 first, so a kind 0

@@ -1,4 +1,4 @@
-//! A path calculator written from document 01 and requests [1] and [3] to [5] of
+//! A path calculator written from document 01 and requests [1] and [3] to [6] of
 //! document 02 alone, to be compared case by case with the proved library.
 //!
 //! The calls take and give what the C interface takes and gives, on

@@ -3,6 +3,7 @@
 use crate::exrs;
 use crate::outcome::NotDone;
 use crate::profile::{u16_at, u32_at, IS_IS, OSPF};
+use crate::reserved::nobodys;
 
 const IPV4: u8 = 1;
 const AS_FOUR_BYTES: u8 = 5;
@@ -125,6 +126,7 @@ fn measure(rest: &[u8], list: List) -> Result<usize, NotDone> {
     };
     let fits = match kind {
         IPV4 => address_fits(whole[6], whole[7], list),
+        AS_FOUR_BYTES | AS_TWO_BYTES => !nobodys(as_number(whole)),
         IS_IS_AREA => whole[4 + usize::from(whole[2])..].iter().all(|&b| b == 0),
         _ => true,
     };
@@ -158,6 +160,14 @@ fn address_fits(prefix: u8, attribute: u8, list: List) -> bool {
     }
 }
 
+/// The AS of a subobject in either form; a short one has the low 16 bits alone.
+fn as_number(whole: &[u8]) -> u32 {
+    match whole.len() {
+        4 => u16_at(whole, 2).into(),
+        _ => u32_at(whole, 4),
+    }
+}
+
 /// The body of a subobject whose form is right.
 fn body(whole: &[u8]) -> Body<'_> {
     match whole[0] & 0x7F {
@@ -165,8 +175,7 @@ fn body(whole: &[u8]) -> Body<'_> {
             address: u32_at(whole, 2),
             prefix: whole[6],
         },
-        AS_FOUR_BYTES => Body::AsNumber(u32_at(whole, 4)),
-        AS_TWO_BYTES => Body::AsNumber(u32::from(u16_at(whole, 2))),
+        AS_FOUR_BYTES | AS_TWO_BYTES => Body::AsNumber(as_number(whole)),
         OSPF_AREA => Body::Area {
             kind: OSPF,
             area: &whole[4..8],

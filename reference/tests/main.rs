@@ -19,6 +19,7 @@ mod rules_exrs_paths;
 mod rules_exrs_written;
 mod rules_lists;
 mod rules_messages;
+mod rules_nobodys;
 mod rules_profile;
 mod rules_replies;
 mod rules_rounds;

@@ -4,11 +4,13 @@
 //! leave.
 
 pub mod compare;
+pub mod every_call;
 pub mod exrs;
 pub mod floats;
 pub mod frames;
 pub mod lists;
 pub mod metrics;
+pub mod nobodys;
 pub mod paths;
 pub mod pcrep;
 pub mod pcreq;

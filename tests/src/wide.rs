@@ -1,15 +1,12 @@
-//! Wide costs: one request or profile given to every call that has to do with
-//! them.
+//! Wide costs: one request given to every call that tells a path or its cost.
 
 use crate::by_hand::ask;
 use crate::compare::{compare, Answer, Case, Lent};
-use crate::lists::{read, verdict};
 use crate::paths::{buffer, path_length, PathCase, LONGEST};
 use crate::pcreq::{carry, AskPath, AskTree};
 use crate::rows::row_path;
 use crate::series::SeriesCase;
 use crate::tree::{buffers, build, Tree, TreeCase, MOST_ENTRIES};
-use crate::writing::write;
 use reference::Call::{First, Next};
 use reference::{PcReq, Request};
 
@@ -34,7 +31,7 @@ pub fn bounded(request: Request, bound_bits: u32) -> Request {
 }
 
 /// Where the hop records of a profile begin.
-fn hops_at(profile: &[u8]) -> usize {
+pub fn hops_at(profile: &[u8]) -> usize {
     let domains = usize::from(profile[6]) << 8 | usize::from(profile[7]);
     12 + 20 * domains
 }
@@ -150,66 +147,4 @@ fn tell_series(request: &Request, first: &PathAnswer, which: &str) {
     let end = if first.number == 0 { 2 } else { 33 };
     let told = (outcomes[1].number, outcomes[1].numbers);
     assert_eq!(told, (end, [0; 4]), "{which}: series");
-}
-
-/// How many calls take a profile.
-pub const CALLS: usize = 10;
-
-/// Number and place of every call that takes a profile, the same from both
-/// programs; the include list is accepted, if the profile is.
-#[track_caller]
-pub fn verdicts(request: &Request, which: &str) -> [(u32, u32); CALLS] {
-    let profile = request.profile;
-    let message = carry(request);
-    let asked = PcReq {
-        profile,
-        ingress: request.ingress,
-        message: &message,
-    };
-    let zeros = vec![0; request.include.len() / 4 + 2];
-    let by_call = |given: Option<&[u32]>| {
-        let path = buffer(LONGEST);
-        let case = PathCase {
-            request: *request,
-            given,
-            path: path.clone(),
-        };
-        let ask = AskPath { asked, given, path };
-        [compare(&case, which), compare(&ask, which)].map(|answer| answer.verdict())
-    };
-    let [first, asked_first] = by_call(None);
-    let [next, asked_next] = by_call(Some(&zeros));
-    let ask = AskTree {
-        asked,
-        buffers: buffers([MOST_ENTRIES; 4]),
-    };
-    let series_buffers = [vec![0; LONGEST]];
-    let series = SeriesCase {
-        request: *request,
-        calls: &[First],
-        buffers: &series_buffers,
-    };
-    let (ran, _) = series.agreed(which);
-    [
-        checked(profile),
-        verdict(&read(profile, request.ingress, request.include, which)),
-        verdict(&write(profile, &[0], &[0], &[0])),
-        verdict(&build(request, which)),
-        first,
-        next,
-        (ran[0].number, ran[0].numbers[0]),
-        compare(&ask, which).verdict(),
-        asked_first,
-        asked_next,
-    ]
-}
-
-/// What check_profile says.
-#[track_caller]
-fn checked(profile: &[u8]) -> (u32, u32) {
-    let (mut library, mut reference) = ([7], [7]);
-    let number = crate::check_profile(profile, &mut library);
-    let same = reference::check_profile(profile, &mut reference);
-    assert_eq!((number, library), (same, reference), "check_profile");
-    (number, library[0])
 }

@@ -86,6 +86,8 @@ fn profiles() -> Vec<Part<Vec<u8>>> {
         (longer, 13, 0),
         (with_domain(0, bad_area.clone()), 14, 0),
         (with_domain(17, domain(65536, 3, &[])), 14, 17),
+        (with_domain(0, domain(0, 0, &[])), 14, 0),
+        (with_domain(15, domain(23_456, 0, &[])), 14, 15),
         (with_domain(1, domain(64496, 0, &[])), 15, 1),
         (with_domain(17, domain(65536, 1, &[0; 4])), 15, 17),
         (with_domain(0, domain(64495, 0, &[])), 16, 0),
@@ -132,6 +134,7 @@ fn wrong_in_form() -> Vec<(Vec<u8>, u32)> {
         (vec![7, 8, 14, 0], 26),
         (vec![7, 8, 3, 0, 0x49, 0, 1, 1], 26),
         (excluded(7, 33), 26),
+        (short_as(0), 26),
     ]
 }
 

@@ -126,6 +126,8 @@ fn faults() -> Vec<(u32, Vec<u8>)> {
         (26, vec![0x87, 8, 3, 0, 0x49, 0, 1, 1]),
         (26, excluded(S, 33)),
         (26, marked(vec![1, 8, 0, 0, 0, 0, 32, 0])),
+        (26, short_as(23_456)),
+        (26, marked(long_as(0))),
         (23, vec![5, 8, 0]),
         (23, vec![0xFF]),
         (23, marked(long_as(64496))[..7].to_vec()),

@@ -122,9 +122,19 @@ fn an_area_of_every_kind_and_length_in_any_as() {
 #[test]
 fn an_as_in_either_form() {
     // The last two have low bytes that an AS of two bytes could have.
-    let numbers = [0, 1, 255, 256, 257, 23456, 65_535, 0x0001_0200, 0x0102_0001];
+    let numbers = [
+        1,
+        255,
+        256,
+        257,
+        23_455,
+        23_457,
+        65_535,
+        0x0001_0200,
+        0x0102_0001,
+    ];
     let profile = with_hops(&numbers.map(|as_number| domain(as_number, 0, &[])));
-    let others = [2, 0x0200, 0x0300, 0xFFFE, 0x5BA1, 0x0001_0000];
+    let others = [2, 0x0200, 0x0300, 0xFFFE, 0x0001_5BA0, 0x0001_0000];
     for as_number in numbers.into_iter().chain(others) {
         let expected = numbers.map(|own| own != as_number);
         let long = long_as(as_number);

@@ -192,6 +192,8 @@ fn faults_inside() -> Vec<(u32, Vec<u8>, bool)> {
         (26, excluded(7, 33), false),
         (26, entry(7), false),
         (26, vec![7, 8, 3, 0, 0x49, 0, 1, 1], false),
+        (26, short_as(0), false),
+        (26, marked(long_as(23_456)), false),
         (23, vec![32], true),
         (23, vec![0, 0, 0], true),
         (23, long_as(9)[..4].to_vec(), true),

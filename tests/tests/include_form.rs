@@ -184,6 +184,8 @@ fn faults() -> Vec<Fault> {
         form(26, &[7, 8, 14, 0], &[0xFF; 5]),
         form(26, &[1, 8, 0, 0, 0, 0, 31, 0], &[0xFF; 5]),
         form(26, &[7, 8, 3, 0, 0x49, 0, 1, 1], &[0xFF; 5]),
+        form(26, &short_as(0), &[0xFF; 5]),
+        form(26, &long_as(23_456), &[0xFF; 5]),
         form(27, &[0xA0, 4, 0, 100], &[0xFF; 5]),
         meaning(28, entry(1), 100, &[short_as(9)]),
         meaning(28, entry(1), 100, &[long_as(9), ospf(0)]),

@@ -17,6 +17,8 @@ mod include_form;
 mod include_rules;
 mod include_worked;
 mod listings;
+mod nobodys;
+mod nobodys_lists;
 mod path_rules;
 mod pcrep_frame;
 mod pcrep_read;

@@ -4,11 +4,12 @@
 use reference::generate::{self, Random};
 use tests::by_hand::{file, hop, B100, S};
 use tests::compare::{seeds, Counts};
+use tests::every_call::{verdicts, CALLS};
 use tests::floats::nearest;
 use tests::paths::{find_first, find_next, Path};
 use tests::rows::{fan, row, row_path};
 use tests::tree::{build, Entry};
-use tests::wide::{along, bounded, change_costs, tell, verdicts, CALLS, GREATEST, MOST};
+use tests::wide::{along, bounded, change_costs, tell, GREATEST, MOST};
 
 // The limit.
 

@@ -91,11 +91,17 @@ static void exrs_not_made(void)
     faulty(&wrong, 1, YQ_EXRS_AREA, "an IS-IS area has 1 to 13 bytes");
     wrong = yq_without_isis_area(fourteen);
     faulty(&wrong, 1, YQ_EXRS_AREA, "an IS-IS area has 1 to 13 bytes");
+    for (uint32_t i = 0; i < 2; i++) {
+        wrong = yq_without_as(i * 23456);
+        faulty(&wrong, 1, YQ_EXRS_AS, "AS 0 and AS 23456 are nobody's");
+        wrong.number++;
+        EXPECT(made_of(wrong).count == 12);
+    }
     wrong.what = (yq_excluded)3;
     faulty(&wrong, 1, YQ_EXRS_KIND,
            "an exclusion is of nodes, an AS, an OSPF area or an IS-IS area");
     for (size_t i = 0; i < 32; i++)
-        many[i] = yq_without_as((uint32_t)i);
+        many[i] = yq_without_as((uint32_t)i + 1);
     EXPECT(made(many, 31).count == 252);
     faulty(many, 32, YQ_EXRS_LONG, "an EXRS has at most 252 bytes; several add up");
 
@@ -260,7 +266,7 @@ static void not_written(void)
     EXPECT(yq_stop_exrs(&sequence, 1).count == 0);
     /* 24 bytes name the three domains: 1,000 are left. */
     for (size_t i = 0; i < 31; i++)
-        many[i] = yq_without_as((uint32_t)i);
+        many[i] = yq_without_as((uint32_t)i + 1);
     yq_exrs longest = made(many, 31), rest = made(many, 30);
     sequence = through_w(1, longest);
     EXPECT(yq_stop_add(&sequence, 1, &longest) == YQ_EXRS_FINE);

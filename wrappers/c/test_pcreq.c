@@ -176,7 +176,7 @@ static void refusals(void)
     static const uint8_t wrong[] = {32, 4, 0xFB, 0xF1, 34, 4, 0, 0};
     static const uint8_t stretch[] = {33, 8, 0, 0, 32, 4, 0xFB, 0xF1};
     static const uint8_t nothing[] = {33, 4, 0, 0};
-    static const uint8_t loose[] = {32, 4, 0xFB, 0xF1, 0x80 | 32, 4, 0, 0};
+    static const uint8_t loose[] = {32, 4, 0xFB, 0xF1, 0x80 | 32, 4, 0, 9};
     static const uint8_t attribute[] = {1, 8, 192, 0, 2, Q, 32, 0};
     static const struct {
         yq_bytes list;

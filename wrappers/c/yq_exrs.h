@@ -54,6 +54,7 @@ typedef enum {
     YQ_EXRS_LONG,
     YQ_EXRS_PREFIX,
     YQ_EXRS_AREA,
+    YQ_EXRS_AS,
     YQ_EXRS_KIND,
     YQ_EXRS_STOP,
     YQ_EXRS_ROOM
@@ -72,6 +73,8 @@ static inline const char *yq_exrs_explain(yq_exrs_fault fault)
         return "a prefix length is at most 32";
     case YQ_EXRS_AREA:
         return "an IS-IS area has 1 to 13 bytes";
+    case YQ_EXRS_AS:
+        return "AS 0 and AS 23456 are nobody's";
     case YQ_EXRS_KIND:
         return "an exclusion is of nodes, an AS, an OSPF area or an IS-IS area";
     case YQ_EXRS_STOP:
@@ -139,7 +142,9 @@ static inline yq_exrs_fault yq_exclusion_fault(const yq_exclusion *one)
     case YQ_WITHOUT_ISIS_AREA:
         return one->length == 0 || one->length > YQ_AREA ? YQ_EXRS_AREA
                                                          : YQ_EXRS_FINE;
-    case YQ_WITHOUT_AS:
+    case YQ_WITHOUT_AS: /* RFC 7607, RFC 6793 */
+        return one->number == 0 || one->number == 23456 ? YQ_EXRS_AS
+                                                        : YQ_EXRS_FINE;
     case YQ_WITHOUT_OSPF_AREA:
         return YQ_EXRS_FINE;
     default:
@@ -260,14 +265,16 @@ static inline size_t yq_exclusion_get(const uint8_t *at, size_t most,
     one->desired = at[0] >= 0x80;
     if (kind == 32) {
         one->number = (uint32_t)at[2] << 8 | at[3];
-        return at[1] == 4 ? 4 : 0;
+        return at[1] == 4 && yq_exclusion_fault(one) == YQ_EXRS_FINE ? 4 : 0;
     }
     if (kind == YQ_WITHOUT_ISIS_AREA)
         one->length = at[2];
     size_t size = yq_exclusion_size(one);
-    if (yq_exclusion_fault(one) != YQ_EXRS_FINE || at[1] != size)
+    if (at[1] != size)
         return 0;
     if (kind == YQ_WITHOUT_ISIS_AREA) {
+        if (yq_exclusion_fault(one) != YQ_EXRS_FINE)
+            return 0;
         memcpy(one->area, at + 4, one->length);
         for (size_t i = 4 + one->length; i < size; i++)
             if (at[i] != 0)
@@ -279,9 +286,10 @@ static inline size_t yq_exclusion_get(const uint8_t *at, size_t most,
         one->number = one->number << 8 | number[i];
     if (kind == YQ_WITHOUT_NODES) {
         one->length = at[6];
-        return at[6] <= 32 && at[7] == 1 ? size : 0;
+        if (at[7] != 1)
+            return 0;
     }
-    return size;
+    return yq_exclusion_fault(one) == YQ_EXRS_FINE ? size : 0;
 }
 
 static inline void yq_exclusions_skip(yq_exclusions *all, size_t bytes)

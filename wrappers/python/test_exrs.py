@@ -66,6 +66,12 @@ class Made(unittest.TestCase):
             text = f"number: {number} has no place in 32 bits"
             self.wrong(text, write_exrs, [WithoutAs(number)])
             self.wrong(text, write_exrs, [WithoutOspfArea(number)])
+        for number in 0, 23456:
+            self.wrong(f"number: AS {number} is nobody's", write_exrs, [WithoutAs(number)])
+            self.assertEqual(len(write_exrs([WithoutAs(number + 1)])), 12)
+        for nobodys in "21080000 20040000", "210C0000 85080000 00005BA0":
+            self.wrong("data: no EXRS of right form at offset 4",
+                       read_exrs, bytes.fromhex(nobodys))
         self.wrong("address: '192.0.2' is no IPv4 address", write_exrs, [WithoutNodes("192.0.2")])
         self.wrong("data: no EXRS of right form at offset 12",
                    read_exrs, WITHOUT_Q + bytes.fromhex("21080000 2004FB"))
@@ -76,7 +82,7 @@ class Made(unittest.TestCase):
         chance = random.Random(5)
         for _ in range(2000):
             kinds = (
-                lambda x: WithoutAs(chance.randrange(1 << 32), x),
+                lambda x: WithoutAs(chance.randrange(23457, 1 << 32), x),
                 lambda x: WithoutOspfArea(chance.randrange(1 << 32), x),
                 lambda x: WithoutIsisArea(chance.randbytes(chance.randint(1, 13)), x),
                 lambda x: WithoutNodes(

@@ -46,6 +46,11 @@ def any_include(chance: random.Random) -> bytes:
     return made
 
 
+def any_as(chance: random.Random, size: int) -> bytes:
+    """An AS above those that are nobody's."""
+    return chance.randrange(23457, 1 << 8 * size).to_bytes(size, "big")
+
+
 def any_list(chance: random.Random, excluding: bool) -> bytes:
     """Subobjects of right form, of each type but EXRS."""
     made = []
@@ -54,10 +59,10 @@ def any_list(chance: random.Random, excluding: bool) -> bytes:
         prefix = chance.randrange(33) if excluding else 32
         made.append(chance.choice((
             b"\x01\x08" + address + bytes([prefix, 1]),
-            b"\x05\x08" + chance.randbytes(6),
+            b"\x05\x08" + chance.randbytes(2) + any_as(chance, 4),
             b"\x06\x08" + chance.randbytes(6),
             b"\x07\x08\x03" + chance.randbytes(4) + b"\0",
-            b"\x20\x04" + chance.randbytes(2),
+            b"\x20\x04" + any_as(chance, 2),
         )))
         if excluding and chance.random() < 0.3:
             made[-1] = bytes([made[-1][0] | 0x80]) + made[-1][1:]

@@ -12,16 +12,17 @@ use borrow.Author.Tests.{ltb-false, leb-false, eqb-true, eqb-false, not-false, l
 use Rattle.model.specs.declared.Verdict.the-variants.{Pass}
 use Rattle.model.specs.Bytes.{number, allZero}
 use Rattle.model.specs.Verdict.{refuseIf, _andThen_, inTurn}
-use Rattle.model.specs.Reserved.{asRanges, addressRanges, misplaced}
+use Rattle.model.specs.Reserved.{asRanges, addressRanges, misplaced, nobodys}
 use Rattle.model.specs.Profile.{Layout, classOf, domainCount, hopCount, domainStart, hopStart, bandwidthBits, headerWrong, countsWrong, lengthWrong, headerVerdict, domainAt, areaLengthFits, domainMalformed, domainMisordered, domainVerdict, otherCost, hopAt, hopMalformed, hopMisordered, hopVerdict, crowded, crowdedVerdict, profileVerdict}
 use Rattle.laws.proofs.Tests.{or-neither, neither-or}
 use Rattle.laws.proofs.Turns.{refuseIf-pass, andThen-refuseIf, andThen-pass, inTurn-pass-all}
 
--- domain record i: its area's length is the kind's, the bytes after the area and the last byte are zero; the record's order and AS are right
+-- domain record i: its area's length is the kind's, the bytes after the area and the last byte are zero, its AS is somebody's; the record's order and AS are right
 pub record AcceptedDomain (s : List ℕ) (i : ℕ) : Type 0 where
   pub areaFits : areaLengthFits ((domainAt s i) .kind) ((domainAt s i) .length) ≡ true
   pub areaPadded : allZero (drop ((domainAt s i) .length) ((domainAt s i) .area)) ≡ true
   pub lastZero : getD s (domainStart i + 19) 0 ≡ 0
+  pub asOwned : nobodys ((domainAt s i) .asn) ≡ false
   pub ordered : domainMisordered s i ≡ false
   pub asPlaced : misplaced (classOf s) asRanges ((domainAt s i) .asn) ≡ false
 
@@ -85,15 +86,16 @@ unfolding domainVerdict domainMalformed
 domain-passes s i = (
   λ e.
       let x = three-tests (domainMalformed s i) (domainMisordered s i) (misplaced (classOf s) asRanges ((domainAt s i) .asn)) 14 15 16 i .0 e in
-      let y = three-or _ _ _ .0 (x .0) in
+      let y = four-or _ _ _ _ .0 (x .0) in
       record {
         areaFits = not-false _ (y .0);
         areaPadded = not-false _ (y .1);
         lastZero = eqb-true _ _ (not-false _ (y .2));
+        asOwned = y .3;
         ordered = x .1;
         asPlaced = x .2;
       },
-  λ a. three-tests _ _ _ _ _ _ _ .1 (three-or _ _ _ .1 (ap not (a .areaFits), ap not (a .areaPadded), ap not (eq-eqb _ _ (a .lastZero))), a .ordered, a .asPlaced),
+  λ a. three-tests _ _ _ _ _ _ _ .1 (four-or _ _ _ _ .1 (ap not (a .areaFits), ap not (a .areaPadded), ap not (eq-eqb _ _ (a .lastZero)), a .asOwned), a .ordered, a .asPlaced),
 )
 
 header-passes

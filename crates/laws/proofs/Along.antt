@@ -5,7 +5,7 @@ use native.Mathlib.Omega.{arith}
 use mathlib.Core.Path.{_≡_, refl, sym, ap, subst, _∙_}
 use mathlib.Core.Logic.{⊎-elim}
 use mathlib.Core.Bool.{Bool, true, false}
-use mathlib.Core.List.{List, [], _∷_}
+use mathlib.Core.List.{List, [], _∷_, List·Memᴰ, List·Memᴰ·cases-cons, List·Memᴰ·not-nil}
 use lib.Dec.{ltb}
 use borrow.Author.Tests.{lt-ltb, le-ltb, ltb-true, ltb-false}
 use Rattle.model.specs.declared.Refusal.{Refusal}
@@ -61,6 +61,22 @@ module _ (next : ℕ → ℕ) (end : ℕ) where
     unfolding checkedAlong
     none-checked zero at h = refl
     none-checked (suc fuel) at h = check-stop at fuel h
+
+    -- where all in turn pass, each does
+    pub passed : (fuel at : ℕ) → checkedAlong fuel check next end at ≡ Pass → (q : ℕ) → List·Memᴰ q (placesAlong fuel next end at) → check q ≡ Pass
+    unfolding placesAlong
+    passed zero at e q m = absurd (List·Memᴰ·not-nil m)
+    passed (suc fuel) at e q m =
+        ⊎-elim
+        (λ (t : ltb at end ≡ true).
+        let l = ltb-true at end t in
+        let both = andThen-pass (check at) (checkedAlong fuel check next end (next at)) .0 (sym (check-step at fuel l) ∙ e) in
+        ⊎-elim
+        (λ (here : q ≡ at). subst (λ (x : ℕ). check x ≡ Pass) (sym here) (both .0))
+        (λ (later : List·Memᴰ q (placesAlong fuel next end (next at))). passed fuel (next at) (both .1) q later)
+        (List·Memᴰ·cases-cons (subst (List·Memᴰ q) (places-step at fuel l) m)))
+        (λ (f : ltb at end ≡ false). absurd (List·Memᴰ·not-nil (subst (List·Memᴰ q) (no-places (suc fuel) at (ltb-false at end f)) m)))
+        (decide (ltb at end))
 
     module _ (further : (at : ℕ) → check at ≡ Pass → at < next at) where
       checked-fuel : (m n at : ℕ) → end ≤ at + m → end ≤ at + n → checkedAlong m check next end at ≡ checkedAlong n check next end at

@@ -31,6 +31,7 @@ use Rattle.laws.proofs.FirstNextExact.{first-exact as first-of-listing,
 use Rattle.laws.proofs.SeriesIsBook.{series-is-book as series-of-listing, series-refused}
 use Rattle.laws.proofs.SeriesListing.{firstWith, nextWith, firstThenNexts, handedOut, Roomy, lastHanded, lastPath, replyAt, hands-out, tells-end, tells-none}
 pub use Rattle.laws.proofs.ClassesApart.{classes-apart}
+pub use Rattle.laws.proofs.Nobodys.{profile-owned, list-owned, nobodys-absent}
 pub use Rattle.laws.proofs.TreeLeast.{tree-least}
 pub use Rattle.laws.proofs.BoundExact.{bound-exact, bandwidth-exact}
 pub use Rattle.laws.proofs.NearestFloat.{float-exact, float-nearest, float-within-eight}

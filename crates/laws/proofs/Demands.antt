@@ -10,7 +10,9 @@ use mathlib.Core.Option.{none}
 use lib.ListN.{length, getD}
 use Rattle.model.specs.declared.Round.{Round}
 use Rattle.model.specs.declared.Verdict.the-variants.{Pass}
-use Rattle.model.specs.Profile.{Layout, profileVerdict, domainCount, domains, hops, verdictOn}
+use Rattle.model.specs.declared.ListKind.{ListKind}
+use Rattle.model.specs.Profile.{Layout, profileVerdict, domainCount, domainAt, domains, hops, verdictOn}
+use Rattle.model.specs.Subobject.{formVerdict, subobjects}
 use Rattle.model.specs.Sequence.{Stop, stopWith, good, domainsOf}
 use Rattle.model.specs.WrittenList.{stops, written, unwritable}
 use Rattle.model.specs.Request.{Request, layoutFor, readingInput, searchIn, Accepted}
@@ -27,6 +29,8 @@ use Rattle.laws.proofs.AcceptedRequest.{accepted-verdict, accepted-mean
 use Rattle.laws.proofs.SequenceDomains.{meaning-different, meaning-inside, meaning-first, different-places}
 use Rattle.laws.proofs.ClassesApart.{ClassesApart, Holds}
 use Rattle.laws.proofs.ClassesApart as Classes
+use Rattle.laws.proofs.Nobodys.{Owned, NamesOwned, NobodysAbsent}
+use Rattle.laws.proofs.Nobodys as Nobodys
 use Rattle.laws.proofs.ReadsBack as Lists
 use Rattle.laws.proofs.SeriesListing.{firstWith, nextWith, firstThenNexts, handedOut, Roomy, lastHanded, lastPath, replyAt}
 use Rattle.laws.proofs.RoundExact.{NoneAdmissible, RoundExact}
@@ -50,6 +54,18 @@ mixed-refused = Classes.mixed-refused
 -- The other half: of an accepted profile of class 0 all lie inside them, of one of class 1 none does.
 pub classes-apart : (L : Layout) (s : List ℕ) → profileVerdict L s ≡ Pass → ClassesApart L s
 classes-apart = Classes.classes-apart
+
+-- No AS that is nobody's, 0 or 23456, gets in: an accepted profile has none,
+pub profile-owned : (L : Layout) (s : List ℕ) → profileVerdict L s ≡ Pass → (i : ℕ) → i < domainCount s → Owned ((domainAt s i) .asn)
+profile-owned = Nobodys.profile-owned
+
+-- a list of right form names none, whichever list it is,
+pub list-owned : (k : ListKind) (s : List ℕ) → formVerdict k s ≡ Pass → NamesOwned (subobjects s)
+list-owned = Nobodys.list-owned
+
+-- and an accepted request has none in its profile, in either list and in what its EXRS carry.
+pub nobodys-absent : (r : Request) (sequence : List Stop) → Accepted r sequence → NobodysAbsent r
+nobodys-absent = Nobodys.nobodys-absent
 
 -- ==== Demand 2: domain lists and the tree
 

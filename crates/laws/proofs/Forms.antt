@@ -15,12 +15,14 @@ use Rattle.model.specs.declared.Verdict.the-variants.{Pass}
 use Rattle.model.specs.declared.ListKind.{ListKind}
 use Rattle.model.specs.declared.ListKind.the-variants.{Include, Exclude}
 use Rattle.model.specs.Lists.{any}
+use Rattle.model.specs.Reserved.{nobodys}
 use Rattle.model.specs.Verdict.{refuseIf, _andThen_}
 use Rattle.model.specs.Along.{checkedAlong}
-use Rattle.model.specs.Bytes.{part, allZero}
-use Rattle.model.specs.Subobject.{roundedUp, known, lengthFits, topAt, typeAt, lengthAt, areaLengthAt, topWrong, prefixWrong, paddingWrong, plainVerdict, carriedVerdict, carriedIf, subobjectVerdict, afterSubobject}
+use Rattle.model.specs.Bytes.{number, part, allZero}
+use Rattle.model.specs.Subobject.{roundedUp, known, lengthFits, topAt, typeAt, lengthAt, areaLengthAt, topWrong, prefixWrong, paddingWrong, fieldWrong, plainVerdict, carriedVerdict, carriedIf, subobjectVerdict, afterSubobject}
 use Rattle.laws.proofs.Tests.{decide}
 use Rattle.laws.proofs.Turns.{andThen-pass, andThen-refuseIf, refuseIf-pass}
+use Rattle.laws.proofs.Numbers.{number-alike}
 use Rattle.laws.proofs.Words.{part-cons}
 use Rattle.laws.proofs.Along.{check-step, none-checked}
 
@@ -41,6 +43,10 @@ module _ (k : ListKind) (a n : ℕ) where
   unfolding lengthFits any
   fits-6 t h e = let l = fitted (8 + 0 * roundedUp a) (subst (λ (u : ℕ). lengthFits k u a n ≡ true) e h) in omega arith
 
+  pub fits-32 : (t : ℕ) → lengthFits k t a n ≡ true → t ≡ 32 → n ≡ 4
+  unfolding lengthFits any
+  fits-32 t h e = let l = fitted (4 + 0 * roundedUp a) (subst (λ (u : ℕ). lengthFits k u a n ≡ true) e h) in omega arith
+
   pub fits-7 : (t : ℕ) → lengthFits k t a n ≡ true → t ≡ 7 → 4 + a ≤ n
   unfolding lengthFits any
   fits-7 t h e = let l = fitted (4 + 1 * roundedUp a) (subst (λ (u : ℕ). lengthFits k u a n ≡ true) e h) in omega arith
@@ -53,7 +59,7 @@ pub record RightForm (k : ListKind) (s : List ℕ) (end at : ℕ) : Type 0 where
   pub areaInRange : (eqb (typeAt s at) 7 && not (leb 1 (areaLengthAt s at) && leb (areaLengthAt s at) 13)) ≡ false
   pub sizeFits : lengthFits k (typeAt s at) (areaLengthAt s at) (lengthAt s at) ≡ true
   pub whole : at + lengthAt s at ≤ end
-  pub bodyRight : ((eqb (typeAt s at) 1 && prefixWrong k s at) || (eqb (typeAt s at) 7 && paddingWrong s at)) ≡ false
+  pub bodyRight : fieldWrong k s at ≡ false
 
 module _ {k : ListKind} {s : List ℕ} {end at : ℕ} where
   pub right-pass : RightForm k s end at → plainVerdict k s end at ≡ Pass
@@ -66,7 +72,7 @@ module _ {k : ListKind} {s : List ℕ} {end at : ℕ} where
   pass-right e =
       let t = typeAt s at in
       let a = areaLengthAt s at in
-      let six = andThen-refuseIf _ ((eqb t 1 && prefixWrong k s at) || (eqb t 7 && paddingWrong s at)) 26 at .0 e in
+      let six = andThen-refuseIf _ (fieldWrong k s at) 26 at .0 e in
       let five = andThen-refuseIf _ (ltb end (at + lengthAt s at)) 23 at .0 (six .0) in
       let four = andThen-refuseIf _ (not (lengthFits k t a (lengthAt s at))) 25 at .0 (five .0) in
       let three = andThen-refuseIf _ (eqb t 7 && not (leb 1 a && leb a 13)) 26 at .0 (four .0) in
@@ -168,18 +174,30 @@ module _ {s t : List ℕ} {a b n : ℕ} (is : Alike s t a b n) where
         ∙ ap (λ (o : ℕ). not (allZero (part t o (y - (4 + x))))) (sym (from b))
         ∙ ap₂ (λ (u v : ℕ). not (allZero (part t (b + i + 4 + u) (v - (4 + u))))) area-alike (byte i 1 (omega arith))
 
+    -- an AS of m bytes, j bytes behind the subobject's start
+    system-alike : (m j : ℕ) → j + m ≤ lengthAt s (a + i) → nobodys (number m s (a + i + j)) ≡ nobodys (number m t (b + i + j))
+    system-alike m j l =
+        ap nobodys
+        (number-alike m s t (a + i + j) (b + i + j)
+        (λ n h. let on : (c : ℕ) → c + i + j + n ≡ c + (i + j + n) = λ c. omega arith in ap (λ (x : ℕ). getD s x 0) (on a) ∙ is .same (i + j + n) (omega arith) ∙ ap (λ (x : ℕ). getD t x 0) (sym (on b))))
+
     body-alike
-        : (k : ListKind) → lengthFits k (typeAt s (a + i)) (areaLengthAt s (a + i)) (lengthAt s (a + i)) ≡ true
-        → ((eqb (typeAt s (a + i)) 1 && prefixWrong k s (a + i)) || (eqb (typeAt s (a + i)) 7 && paddingWrong s (a + i)))
-        ≡ ((eqb (typeAt t (b + i)) 1 && prefixWrong k t (b + i)) || (eqb (typeAt t (b + i)) 7 && paddingWrong t (b + i)))
+        : (k : ListKind) → lengthFits k (typeAt s (a + i)) (areaLengthAt s (a + i)) (lengthAt s (a + i)) ≡ true → fieldWrong k s (a + i) ≡ fieldWrong k t (b + i)
+    unfolding fieldWrong
     body-alike k fits =
         let u = typeAt s (a + i) in
         let x = areaLengthAt s (a + i) in
         let y = lengthAt s (a + i) in
         ap₂ (λ (c d : Bool). c || d)
+        (ap₂ (λ (c d : Bool). c || d)
+        (ap₂ (λ (c d : Bool). c || d)
         (and-alike (eqb u 1) _ _ (λ e. prefix-alike k (fits-1 k x y u fits (eqb-true u 1 e))))
-        (and-alike (eqb u 7) _ _ (λ e. padding-alike (fits-7 k x y u fits (eqb-true u 7 e))))
-        ∙ ap (λ (v : ℕ). (eqb v 1 && prefixWrong k t (b + i)) || (eqb v 7 && paddingWrong t (b + i))) (type-alike i (omega arith))
+        (and-alike (eqb u 7) _ _ (λ e. padding-alike (fits-7 k x y u fits (eqb-true u 7 e)))))
+        (and-alike (eqb u 5) _ _ (λ e. system-alike 4 4 (omega (arith, fits-5 k x y u fits (eqb-true u 5 e))))))
+        (and-alike (eqb u 32) _ _ (λ e. system-alike 2 2 (omega (arith, fits-32 k x y u fits (eqb-true u 32 e)))))
+        ∙ ap
+        (λ (v : ℕ). (eqb v 1 && prefixWrong k t (b + i)) || (eqb v 7 && paddingWrong t (b + i)) || (eqb v 5 && nobodys (number 4 t (b + i + 4))) || (eqb v 32 && nobodys (number 2 t (b + i + 2))))
+        (type-alike i (omega arith))
 
   -- the form, up to an end inside both
   pub form-alike : (k : ListKind) (e i : ℕ) → e ≤ n → RightForm k s (a + e) (a + i) → RightForm k t (b + e) (b + i)

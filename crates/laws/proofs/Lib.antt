@@ -20,6 +20,7 @@ pub mod EitherCost
 pub mod HopOrder
 pub mod EntryNodes
 pub mod ClassesApart
+pub mod Nobodys
 pub mod ProfileLists
 pub mod BigEndian
 pub mod Records

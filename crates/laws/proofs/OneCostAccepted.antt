@@ -15,7 +15,7 @@ use Rattle.model.specs.declared.Hop.{Hop}
 use Rattle.model.specs.declared.Verdict.the-variants.{Pass}
 use Rattle.model.specs.Bytes.{allZero}
 use Rattle.model.specs.Lists.{below}
-use Rattle.model.specs.Reserved.{asRanges, addressRanges, misplaced}
+use Rattle.model.specs.Reserved.{asRanges, addressRanges, misplaced, nobodys}
 use Rattle.model.specs.Profile.{Layout, classOf, domainCount, hopCount, domainStart, hopStart, areaLengthFits, domainMisordered, otherCost, hopAt, hops, hopMisordered, entryNodes, crowded, profileVerdict}
 use Rattle.laws.proofs.Tests.{decide}
 use Rattle.laws.proofs.Records.{hop-at}
@@ -53,6 +53,7 @@ module _
           areaFits = ap (λ (x : Domain). areaLengthFits (x .kind) (x .length)) e ∙ d .areaFits;
           areaPadded = ap (λ (x : Domain). allZero (drop (x .length) (x .area))) e ∙ d .areaPadded;
           lastZero = byte-before L room s (a .sized) k c recorded (domainStart i + 19) (omega arith) ∙ d .lastZero;
+          asOwned = ap (λ (x : Domain). nobodys (x .asn)) e ∙ d .asOwned;
           ordered = same-order i h ∙ d .ordered;
           asPlaced = (λ j. misplaced (same-class j) asRanges ((e j) .asn)) ∙ d .asPlaced;
         }

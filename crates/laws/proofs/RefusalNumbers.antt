@@ -21,7 +21,7 @@ use Rattle.model.specs.Along.{checkedAlong}
 use Rattle.model.specs.Profile.{Layout, classOf, domainCount, hopCount, headerWrong, countsWrong, lengthWrong, headerVerdict, domainAt, domains, domainMalformed, domainMisordered, domainVerdict, hopAt, hopMalformed, hopMisordered, hopVerdict, crowded, crowdedVerdict, profileVerdict, layoutIn}
 use Rattle.model.specs.Reserved.{asRanges, addressRanges, misplaced}
 use Rattle.model.specs.Floats.{inRange}
-use Rattle.model.specs.Subobject.{Named, prefix, system, area, stretch, Subobject, known, lengthFits, topAt, typeAt, areaLengthAt, topWrong, prefixWrong, paddingWrong, lengthAt, plainVerdict, carriedVerdict, carriedIf, subobjectVerdict, formVerdict, subobjects, afterSubobject}
+use Rattle.model.specs.Subobject.{Named, prefix, system, area, stretch, Subobject, known, lengthFits, topAt, typeAt, areaLengthAt, topWrong, lengthAt, fieldWrong, plainVerdict, carriedVerdict, carriedIf, subobjectVerdict, formVerdict, subobjects, afterSubobject}
 use Rattle.model.specs.Sequence.{Stop, Waits, entry, exclusions, Waiting, pinOf, leftOver, ReadingInput, State, Reading, refused, good, refuse, continue, enterIf, domainsOf, enter, name, wait, areaNext, readSystem, readNamed, readOne, finish, readAll, startIn, meaning, ofSystem, ofArea, withSystem}
 use Rattle.model.specs.Request.{Request, layoutFor, readingInput, provided, requestVerdict, sequenceOf, sizesVerdict, formsVerdict, requestVerdictWith}
 use Rattle.model.specs.Calls.{readingOf}
@@ -138,7 +138,7 @@ module _ (most : ℕ) (high : 35 ≤ most) where
       23
       at
       (omega arith))
-      ((eqb t 1 && prefixWrong k s at) || (eqb t 7 && paddingWrong s at))
+      (fieldWrong k s at)
       26
       at
       (omega arith)

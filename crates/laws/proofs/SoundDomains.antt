@@ -14,6 +14,7 @@ use borrow.Author.Tests.{eqb-true, eq-eqb, ltb-true, ltb-false, not-false}
 use Rattle.model.specs.declared.Domain.{Domain}
 use Rattle.model.specs.declared.Verdict.the-variants.{Pass}
 use Rattle.model.specs.Lists.{all, below}
+use Rattle.model.specs.Reserved.{nobodys}
 use Rattle.model.specs.Bytes.{number, part, allZero}
 use Rattle.model.specs.Profile.{Layout, domainCount, domainStart, domainAt, domains, areaLengthFits, domainMisordered, profileVerdict}
 use Rattle.model.specs.Sequence.{domainOf, noDomain}
@@ -28,6 +29,7 @@ use Rattle.laws.proofs.Numbers.{bytes-take, bytes-drop, number-alike, n
 -- one record: its AS is a u32, its area's length is one of its kind's, and it holds 13 bytes
 pub record SoundDomain (d : Domain) : Type 0 where
   pub asnFits : d .asn < 2 ^ 32
+  pub asnOwned : nobodys (d .asn) ≡ false
   pub areaFits : areaLengthFits (d .kind) (d .length) ≡ true
   pub areaHeld : length (d .area) ≡ 13
   pub areaBytes : Bytes (d .area)
@@ -254,6 +256,7 @@ module _ (L : Layout) (s : List ℕ) (profile : AcceptedProfile L s) where
     sound-record i h =
         record {
           asnFits = number-bound 4 s (domainStart i) bytes;
+          asnOwned = profile .domain i h .asOwned;
           areaFits = profile .domain i h .areaFits;
           areaHeld = area-held i h;
           areaBytes = bytes-take 13 (drop (domainStart i + 6) s) (bytes-drop (domainStart i + 6) s bytes);

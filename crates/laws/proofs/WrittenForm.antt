@@ -16,8 +16,9 @@ use Rattle.model.specs.declared.Domain.{Domain}
 use Rattle.model.specs.declared.ListKind.the-variants.{Include}
 use Rattle.model.specs.declared.Verdict.the-variants.{Pass}
 use Rattle.model.specs.Lists.{any, all}
-use Rattle.model.specs.Bytes.{bytesOf, allZero}
-use Rattle.model.specs.Subobject.{Area, prefix, system, area, roundedUp, known, lengthFits, paddingWrong, typeAt, carriedIf, subobjectVerdict, namedAt}
+use Rattle.model.specs.Reserved.{nobodys}
+use Rattle.model.specs.Bytes.{number, bytesOf, allZero}
+use Rattle.model.specs.Subobject.{Area, prefix, system, area, roundedUp, known, lengthFits, paddingWrong, fieldWrong, typeAt, carriedIf, subobjectVerdict, namedAt}
 use Rattle.model.specs.Profile.{areaLengthFits}
 use Rattle.model.specs.WrittenList.{writtenPin, writtenSystem, writtenArea}
 use Rattle.laws.proofs.AreaLengths.{fits-cases}
@@ -40,7 +41,7 @@ abbrev pub pinItem : ℕ → Item
 pinItem node = record { bytes = writtenPin (some node); names = prefix node 32 }
 
 pub pin-encoded : (node : ℕ) → node < 2 ^ 32 → Encoded Include (pinItem node)
-unfolding bytesOf namedAt known lengthFits any
+unfolding bytesOf namedAt known lengthFits fieldWrong any
 pin-encoded node h =
     record {
       right = λ post. plain-right refl
@@ -65,9 +66,10 @@ pin-encoded node h =
 abbrev pub systemItem : ℕ → Item
 systemItem n = record { bytes = writtenSystem n; names = system n }
 
-pub system-encoded : (n : ℕ) → n < 2 ^ 32 → Encoded Include (systemItem n)
-unfolding bytesOf namedAt known lengthFits any
-system-encoded n h =
+pub system-encoded : (n : ℕ) → n < 2 ^ 32 → nobodys n ≡ false → Encoded Include (systemItem n)
+unfolding bytesOf namedAt known lengthFits fieldWrong any
+system-encoded n h owned =
+    let four : (post : List ℕ) → number 4 (writtenSystem n ++ post) 4 ≡ n = λ post. number-shift 4 (5 ∷ 8 ∷ 0 ∷ 0 ∷ []) (bytesOf 4 n ++ post) 0 ∙ number-bytesOf 4 n post h in
     record {
       right = λ post. plain-right refl
           (record {
@@ -77,12 +79,12 @@ system-encoded n h =
             areaInRange = refl;
             sizeFits = refl;
             whole = omega arith;
-            bodyRight = refl;
+            bodyRight = rw (four post, owned) refl;
           });
       clear = λ post. refl;
       size = λ post. refl;
       long = omega arith;
-      naming = λ post. ap system (number-shift 4 (5 ∷ 8 ∷ 0 ∷ 0 ∷ []) (bytesOf 4 n ++ post) 0 ∙ number-bytesOf 4 n post h);
+      naming = λ post. ap system (four post);
     }
 
 -- ---- types 6 and 7: an area
@@ -99,7 +101,7 @@ pub held : (d : Domain) → d .length ≤ length (d .area) → length (take (d .
 held d h = length-take-le (d .length) (d .area) h
 
 ospf-encoded : (d : Domain) → d .kind ≡ 1 → d .length ≡ 4 → length (d .area) ≡ 13 → Encoded Include (areaItem 1 d)
-unfolding namedAt known lengthFits any
+unfolding namedAt known lengthFits fieldWrong any
 ospf-encoded d k l h =
     let bytes = take (d .length) (d .area) in
     let n : length bytes ≡ 4 = held d (omega arith) ∙ l in
@@ -137,7 +139,7 @@ isis-padding n r bytes post e h =
     rw (left, drop-append-add (7 ∷ (4 + r) ∷ n ∷ 0 ∷ []) (bytes ++ replicate (r - n) 0 ++ post) n, append-assoc bytes (replicate (r - n) 0) post, drop-at bytes (replicate (r - n) 0 ++ post) n e, take-at (replicate {A = ℕ} (r - n) 0) post (r - n) (length-replicate (r - n) 0), all-zero (r - n))
 
 isis-encoded : (d : Domain) → d .kind ≡ 2 → 1 ≤ d .length → d .length ≤ 13 → length (d .area) ≡ 13 → Encoded Include (areaItem 2 d)
-unfolding namedAt known lengthFits any
+unfolding namedAt known lengthFits fieldWrong any
 isis-encoded d k low high h =
     let bytes : List ℕ = take (d .length) (d .area) in
     let padding : List ℕ = replicate (roundedUp (d .length) - d .length) 0 in
@@ -153,7 +155,7 @@ isis-encoded d k low high h =
             areaInRange = rw (le-leb 1 (d .length) low, le-leb (d .length) 13 high);
             sizeFits = isis-size (d .length);
             whole = omega arith;
-            bodyRight = isis-padding (d .length) (roundedUp (d .length)) bytes post n (omega arith);
+            bodyRight = rw (isis-padding (d .length) (roundedUp (d .length)) bytes post n (omega arith)) refl;
           });
       clear = λ post. refl;
       size = λ post. omega arith;

@@ -13,6 +13,7 @@ use Rattle.model.specs.declared.Verdict.the-variants.{Pass}
 use Rattle.model.specs.declared.ListKind.{ListKind}
 use Rattle.model.specs.declared.ListKind.the-variants.{Include}
 use Rattle.model.specs.Lists.{each}
+use Rattle.model.specs.Reserved.{nobodys}
 use Rattle.model.specs.Bytes.{bytesOf}
 use Rattle.model.specs.Subobject.{roundedUp, formVerdict, subobjects}
 use Rattle.model.specs.Sequence.{Stop, domainOf}
@@ -118,9 +119,9 @@ pin-all : (pin : Option ℕ) → PinFits pin → AllEncoded Include (pinItems pi
 pin-all none h = tt
 pin-all (some node) h = (pin-encoded node h, tt)
 
-system-all : (again : Bool) (n : ℕ) → n < 2 ^ 32 → AllEncoded Include (systemItems again n)
-system-all true n h = tt
-system-all false n h = (system-encoded n h, tt)
+system-all : (again : Bool) (n : ℕ) → n < 2 ^ 32 → nobodys n ≡ false → AllEncoded Include (systemItems again n)
+system-all true n h o = tt
+system-all false n h o = (system-encoded n h o, tt)
 
 area-all : (k : ℕ) (d : Domain) → d .kind ≡ k → SoundDomain d → AllEncoded Include (areaItems k d)
 area-all zero d e h = tt
@@ -135,7 +136,7 @@ module _ (ds : List Domain) (sound : SoundDomains ds) where
       encoded-append Include (pinItems (p .pin)) _ (pin-all (p .pin) (h .1))
       (encoded-append Include (exrsItems (subobjects (p .exrs))) _ (h .2 .0 .encoded)
       (encoded-append Include (domainItems (repeated before (d .asn)) d) _
-      (encoded-append Include (systemItems (repeated before (d .asn)) (d .asn)) _ (system-all (repeated before (d .asn)) (d .asn) (s .asnFits)) (area-all (d .kind) d refl s))
+      (encoded-append Include (systemItems (repeated before (d .asn)) (d .asn)) _ (system-all (repeated before (d .asn)) (d .asn) (s .asnFits) (s .asnOwned)) (area-all (d .kind) d refl s))
       (items-encoded (some (d .asn)) rest (h .3))))
 
   pub written-form : (ps : List Stop) → Writable ds ps → formVerdict Include (written ds ps) ≡ Pass

@@ -11,11 +11,12 @@ use Rattle.model.specs.declared.ListKind.{ListKind}
 use Rattle.model.specs.declared.Verdict.{Verdict}
 use Rattle.model.specs.declared.Verdict.the-variants.{Pass}
 use Rattle.model.specs.Verdict.{refuseIf, _andThen_}
-use Rattle.model.specs.Bytes.{part, allZero}
-use Rattle.model.specs.Subobject.{plainVerdict, known, lengthFits, topWrong, prefixWrong, paddingWrong, typeAt, topAt, lengthAt, areaLengthAt}
+use Rattle.model.specs.Reserved.{nobodys}
+use Rattle.model.specs.Bytes.{number, part, allZero}
+use Rattle.model.specs.Subobject.{plainVerdict, known, lengthFits, topWrong, prefixWrong, paddingWrong, fieldWrong, typeAt, topAt, lengthAt, areaLengthAt}
 use Rattle.list_subobject.specs.Items.{Readable}
 use Rattle.refusal.specs.Refused.{refusal}
-use Rattle.list_form.specs.Checks.{headWrong, fieldWrong, zeroFrom}
+use Rattle.list_form.specs.Checks.{headWrong, zeroFrom}
 use Rattle.list_subobject.proofs.FormLaws.{padded}
 
 -- ---- the checks as the code makes them: those of the first three bytes together, as one number
@@ -102,12 +103,30 @@ module _ {s : List ℕ} {at : ℕ} (r : Readable s at) where
       let d : (at + lengthAt s at) - (at + 4 + areaLengthAt s at) ≡ lengthAt s at - (4 + areaLengthAt s at) = omega arith in
       ap (λ (n : ℕ). not (allZero (part s (at + 4 + areaLengthAt s at) n))) d
 
+-- what the last check is for a type
 module _ (k : ListKind) (s : List ℕ) (at : ℕ) where
+  abbrev five : Bool
+  five = nobodys (number 4 s (at + 4))
+
+  abbrev two : Bool
+  two = nobodys (number 2 s (at + 2))
+
   pub field-1 : typeAt s at ≡ 1 → prefixWrong k s at ≡ fieldWrong k s at
-  field-1 e = rw e (sym (or-false (prefixWrong k s at)))
+  unfolding fieldWrong
+  field-1 e = rw (e, or-false (prefixWrong k s at), or-false (prefixWrong k s at), or-false (prefixWrong k s at)) refl
 
   pub field-7 : typeAt s at ≡ 7 → paddingWrong s at ≡ fieldWrong k s at
-  field-7 e = rw e refl
+  unfolding fieldWrong
+  field-7 e = rw (e, or-false (paddingWrong s at), or-false (paddingWrong s at)) refl
 
-  pub field-none : (typeAt s at ≡ 1 → ⊥) → (typeAt s at ≡ 7 → ⊥) → false ≡ fieldWrong k s at
-  field-none d1 d7 = rw (ne-eqb (typeAt s at) 1 d1, ne-eqb (typeAt s at) 7 d7) refl
+  pub field-5 : typeAt s at ≡ 5 → five ≡ fieldWrong k s at
+  unfolding fieldWrong
+  field-5 e = rw (e, or-false five) refl
+
+  pub field-32 : typeAt s at ≡ 32 → two ≡ fieldWrong k s at
+  unfolding fieldWrong
+  field-32 e = rw e refl
+
+  pub field-none : (typeAt s at ≡ 1 → ⊥) → (typeAt s at ≡ 7 → ⊥) → (typeAt s at ≡ 5 → ⊥) → (typeAt s at ≡ 32 → ⊥) → false ≡ fieldWrong k s at
+  unfolding fieldWrong
+  field-none d1 d7 d5 d32 = rw (ne-eqb (typeAt s at) 1 d1, ne-eqb (typeAt s at) 7 d7, ne-eqb (typeAt s at) 5 d5, ne-eqb (typeAt s at) 32 d32) refl

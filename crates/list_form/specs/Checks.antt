@@ -1,5 +1,5 @@
 -- The checks of a subobject's form as the code makes them, over the definitions of `model`.
-use mathlib.Core.Bool.{Bool, not, cond, _&&_, _||_}
+use mathlib.Core.Bool.{Bool, not, cond, _&&_}
 use mathlib.Core.List.{List}
 use Prim.Native.Nat.{ℕ, _-_, _%_}
 use lib.Dec.{eqb, leb}
@@ -18,7 +18,3 @@ headWrong k first n area =
     (cond (M.topWrong k (leb 128 first)) 27
     (cond (eqb t 7 && not (leb 1 area && leb area 13)) 26
     (cond (M.lengthFits k t area n) 0 25)))
-
--- the last check of a subobject's form: a field out of range, or padding that isn't zero
-abbrev pub fieldWrong : ListKind → List ℕ → ℕ → Bool
-fieldWrong k s at = (eqb (M.typeAt s at) 1 && M.prefixWrong k s at) || (eqb (M.typeAt s at) 7 && M.paddingWrong s at)

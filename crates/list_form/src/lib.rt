@@ -7,14 +7,17 @@ ghost use lib.Dec.{eqb, leb};
 ghost use mathlib.Core.Bool.{not, _&&_};
 ghost use Rattle.model.specs.declared.ListKind.the-variants.{Include, Exclude};
 ghost use Rattle.model.specs.declared.Verdict.the-variants.{Pass};
-ghost use Rattle.model.specs.Subobject.{roundedUp, typeAt, plainVerdict, carriedIf, subobjectVerdict, formFrom, formVerdict, topWrong, prefixWrong};
+ghost use Rattle.model.specs.Subobject.{roundedUp, typeAt, plainVerdict, carriedIf, subobjectVerdict, formFrom, formVerdict, topWrong, prefixWrong, fieldWrong};
 ghost use Rattle.list_subobject.specs.Lengths.{lengthOf};
 ghost use Rattle.list_subobject.specs.Items.{Readable};
-ghost use Rattle.list_form.specs.Checks.{zeroFrom, headWrong, fieldWrong};
+ghost use Rattle.list_form.specs.Checks.{zeroFrom, headWrong};
 use list_subobject::walk::next_after;
 use model::ListKind;
 use model::Verdict;
+use profile_reserved::as_nobodys;
 use refusal::refuse_at;
+use wire::u16_at;
+use wire::u32_at;
 use wire::wide;
 
 // An area's length rounded up to 4.
@@ -105,7 +108,7 @@ fn area_wrong(t: u8, area: u8) -> bool
     false
 }
 
-// A field out of range, or padding that isn't zero, in a subobject of right length.
+// A field out of range, an AS that is nobody's among them, or padding that isn't zero, in a subobject of right length.
 fn field_wrong(kind: ListKind, list: &[u8], at: usize) -> bool
     requires { ⌜ Readable (now list) at ⌝ }
     ensures { λ r. ⌜ r ≡ fieldWrong kind (now (list .entry)) at ⌝ }
@@ -117,6 +120,12 @@ fn field_wrong(kind: ListKind, list: &[u8], at: usize) -> bool
     if t == 7 {
         let start = at + 4 + wide(list[at + 2]);
         return !all_zero(list, start, at + wide(list[at + 1]));
+    }
+    if t == 5 {
+        return as_nobodys(u32_at(list, at + 4));
+    }
+    if t == 32 {
+        return as_nobodys(u16_at(list, at + 2) as u32);
     }
     false
 }

@@ -20,4 +20,5 @@ pub mod Series
 pub mod WorkedFloats
 pub mod WorkedCases
 pub mod WorkedExrs
+pub mod WorkedNobodys
 pub mod WorkedWays

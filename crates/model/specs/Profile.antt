@@ -11,7 +11,7 @@ use Rattle.model.specs.declared.Verdict.{Verdict}
 use Rattle.model.specs.Lists.{any, below, countFrom, different, keep}
 use Rattle.model.specs.Bytes.{number, part, allZero}
 use Rattle.model.specs.Verdict.{refuseIf, _andThen_, inTurn}
-use Rattle.model.specs.Reserved.{asRanges, addressRanges, misplaced}
+use Rattle.model.specs.Reserved.{asRanges, addressRanges, misplaced, nobodys}
 
 -- What a version of the format sets: its number, the size of a hop record, the places in it of the cost that counts and of
 -- the other cost (in a record of one cost the same place), the largest cost, the most hops.
@@ -101,11 +101,14 @@ areaRules =
 unfoldable pub areaLengthFits : ℕ → ℕ → Bool
 areaLengthFits k n = any (λ (r : AreaRule). eqb k (r .kind) && leb (r .least) n && leb n (r .most)) areaRules
 
--- kind unknown, length not the kind's, an area byte after the length or the last byte not zero
+-- kind unknown, length not the kind's, an area byte after the length or the last byte not zero, an AS that is nobody's
 unfoldable pub domainMalformed : List ℕ → ℕ → Bool
 domainMalformed s i =
     let d = domainAt s i in
-    not (areaLengthFits (d .kind) (d .length)) || not (allZero (drop (d .length) (d .area))) || not (eqb (getD s (domainStart i + 19) 0) 0)
+    not (areaLengthFits (d .kind) (d .length))
+    || not (allZero (drop (d .length) (d .area)))
+    || not (eqb (getD s (domainStart i + 19) 0) 0)
+    || nobodys (d .asn)
 
 -- Not above the record before it, compared as bytes; or the record before it is of kind 0 and of the same AS. (Ascending records of one AS
 -- stand together and kind 0 comes first, so that is the record before.)

@@ -1,8 +1,9 @@
--- The reserved ranges of AS numbers (RFC 5398) and addresses (RFC 5737): document 01's "pools". In class 0 every AS and node lies in them, in class 1 none.
+-- The reserved ranges of AS numbers (RFC 5398) and addresses (RFC 5737): document 01's "pools". In class 0 every AS and node lies in them, in class 1 none. And the
+-- AS numbers that are nobody's, in no class and in no list.
 use Prim.Native.Nat.{ℕ, zero, suc}
-use mathlib.Core.Bool.{Bool, not, _&&_}
+use mathlib.Core.Bool.{Bool, not, _&&_, _||_}
 use mathlib.Core.List.{List, [], _∷_}
-use lib.Dec.{leb}
+use lib.Dec.{eqb, leb}
 use Rattle.model.specs.Lists.{any}
 
 pub record Range : Type 0 where
@@ -30,3 +31,7 @@ inRanges ranges x = any (λ (r : Range). leb (r .first) x && leb x (r .last)) ra
 unfoldable pub misplaced : ℕ → List Range → ℕ → Bool
 misplaced zero ranges x = not (inRanges ranges x)
 misplaced (suc c) ranges x = inRanges ranges x
+
+-- AS 0 is never used to identify a network (RFC 7607); 23456, AS_TRANS, stands where two octets can't hold the number that is meant (RFC 6793): document 02, request [6]
+unfoldable pub nobodys : ℕ → Bool
+nobodys asn = eqb asn 0 || eqb asn 23456

@@ -10,6 +10,7 @@ use Rattle.model.specs.declared.ListKind.{ListKind}
 use Rattle.model.specs.declared.ListKind.the-variants.{Include, Exclude}
 use Rattle.model.specs.Lists.{any, each}
 use Rattle.model.specs.Bytes.{number, part, allZero}
+use Rattle.model.specs.Reserved.{nobodys}
 use Rattle.model.specs.Verdict.{refuseIf, _andThen_}
 use Rattle.model.specs.Along.{checkedFrom, placesFrom}
 
@@ -106,6 +107,15 @@ prefixWrong Exclude s at = ltb 32 (getD s (at + 6) 0) || not (eqb (getD s (at + 
 abbrev pub paddingWrong : List ℕ → ℕ → Bool
 paddingWrong s at = not (allZero (part s (at + 4 + areaLengthAt s at) (lengthAt s at - (4 + areaLengthAt s at))))
 
+-- a field out of range, or padding that isn't zero: the last check of a subobject's form. Types 5 and 32 name no AS that is nobody's (document 02, request [6])
+unfoldable pub fieldWrong : ListKind → List ℕ → ℕ → Bool
+fieldWrong k s at =
+    let t = typeAt s at in
+    (eqb t 1 && prefixWrong k s at)
+    || (eqb t 7 && paddingWrong s at)
+    || (eqb t 5 && nobodys (number 4 s (at + 4)))
+    || (eqb t 32 && nobodys (number 2 s (at + 2)))
+
 -- the form of the subobject at an offset, in document 01's order within a subobject, but for what an EXRS carries; what holds it ends at `end`
 unfoldable pub plainVerdict : ListKind → List ℕ → ℕ → ℕ → Verdict
 plainVerdict k s end at =
@@ -116,7 +126,7 @@ plainVerdict k s end at =
     andThen refuseIf (eqb t 7 && not (leb 1 (areaLengthAt s at) && leb (areaLengthAt s at) 13)) 26 at
     andThen refuseIf (not (lengthFits k t (areaLengthAt s at) (lengthAt s at))) 25 at
     andThen refuseIf (ltb end (at + lengthAt s at)) 23 at
-    andThen refuseIf ((eqb t 1 && prefixWrong k s at) || (eqb t 7 && paddingWrong s at)) 26 at
+    andThen refuseIf (fieldWrong k s at) 26 at
 
 abbrev pub afterSubobject : List ℕ → ℕ → ℕ
 afterSubobject s at = at + lengthAt s at

@@ -16,7 +16,7 @@ use Rattle.model.specs.Lists.{countFrom, keep, all, any, each, among, al
 use Rattle.model.specs.Bytes.{number, bytesOf, allZero}
 use Rattle.model.specs.Verdict.{inTurn}
 use Rattle.model.specs.Along.{checkedAlong, placesAlong}
-use Rattle.model.specs.Reserved.{inRanges, misplaced}
+use Rattle.model.specs.Reserved.{inRanges, misplaced, nobodys}
 use Rattle.model.specs.Profile as Profile
 use Rattle.model.specs.Subobject as Subobject
 use Rattle.model.specs.Sequence.{Stop, stop, Reading, refused, good, exrsOf, ofSystem, ofArea, enter, name, readOne, readAll, meaning}
@@ -338,5 +338,5 @@ table = starred ++ desired ++ wide ++ prefixes
 
 -- every row holds
 pub worked-cases : map (λ (r : Row). outcome (r .case)) table ≡ map (λ (r : Row). r .expected) table
-unfolding profileW profileOspf toEnd toEnd5 throughU back without desiredWithout desiredWithout64511 plain bounded above100 onW short whole alone bookOf outcome numbers through at cut costs14 treeW calls givesIn gives ends none-there SPUZ SPTZ SQTZ SQUZ three no-path row starred desired dearer onDearer spuz wide around prefixes table countFrom keep all any each among allDifferent sum least same below insert different over number bytesOf allZero inTurn inRanges misplaced Profile.headerWrong Profile.countsWrong Profile.lengthWrong Profile.headerVerdict Profile.domainAt Profile.domains Profile.areaLengthFits Profile.domainMalformed Profile.domainMisordered Profile.domainVerdict Profile.hopAt Profile.hops Profile.hopMalformed Profile.hopMisordered Profile.hopVerdict Profile.entryNodes Profile.crowded Profile.crowdedVerdict Profile.profileVerdict Subobject.known Subobject.lengthFits Subobject.plainVerdict Subobject.carriedVerdict Subobject.subobjectVerdict Subobject.namedAt checkedAlong placesAlong Subobject.formVerdict Subobject.subobjects Subobject.carried exrsOf ofSystem ofArea enter name readOne readAll meaning writtenFrom written stops wholeExrs unfit unwritable inForce someDesired excludedDomain excludedNode units inRange atLeast atMost floatOf requestVerdict sequenceOf allExclusions searchIn roundOf searchOf Path.legs Path.keepsBound Path.exclusionsAt Path.allowed Path.hopsFrom Path.suffixes Path.paths Path.admissible Path.cheapest Path.shortestPaths Tree.entriesAt Tree.entry Tree.tree Tree.tally readingOf allExrs readInclude writeList buildTree first greaterThan next book run ofBits toBits ofFields odd size span climb ofInt round isNan Ieee.units trailingZeros Profile.layoutIn
+unfolding profileW profileOspf toEnd toEnd5 throughU back without desiredWithout desiredWithout64511 plain bounded above100 onW short whole alone bookOf outcome numbers through at cut costs14 treeW calls givesIn gives ends none-there SPUZ SPTZ SQTZ SQUZ three no-path row starred desired dearer onDearer spuz wide around prefixes table countFrom keep all any each among allDifferent sum least same below insert different over number bytesOf allZero inTurn inRanges misplaced nobodys Profile.headerWrong Profile.countsWrong Profile.lengthWrong Profile.headerVerdict Profile.domainAt Profile.domains Profile.areaLengthFits Profile.domainMalformed Profile.domainMisordered Profile.domainVerdict Profile.hopAt Profile.hops Profile.hopMalformed Profile.hopMisordered Profile.hopVerdict Profile.entryNodes Profile.crowded Profile.crowdedVerdict Profile.profileVerdict Subobject.known Subobject.lengthFits Subobject.fieldWrong Subobject.plainVerdict Subobject.carriedVerdict Subobject.subobjectVerdict Subobject.namedAt checkedAlong placesAlong Subobject.formVerdict Subobject.subobjects Subobject.carried exrsOf ofSystem ofArea enter name readOne readAll meaning writtenFrom written stops wholeExrs unfit unwritable inForce someDesired excludedDomain excludedNode units inRange atLeast atMost floatOf requestVerdict sequenceOf allExclusions searchIn roundOf searchOf Path.legs Path.keepsBound Path.exclusionsAt Path.allowed Path.hopsFrom Path.suffixes Path.paths Path.admissible Path.cheapest Path.shortestPaths Tree.entriesAt Tree.entry Tree.tree Tree.tally readingOf allExrs readInclude writeList buildTree first greaterThan next book run ofBits toBits ofFields odd size span climb ofInt round isNan Ieee.units trailingZeros Profile.layoutIn
 worked-cases = refl

@@ -15,7 +15,7 @@ use Rattle.model.specs.Lists.{countFrom, keep, all, any, each, among, al
 use Rattle.model.specs.Bytes.{number, bytesOf, allZero}
 use Rattle.model.specs.Verdict.{inTurn}
 use Rattle.model.specs.Along.{checkedAlong, placesAlong}
-use Rattle.model.specs.Reserved.{inRanges, misplaced}
+use Rattle.model.specs.Reserved.{inRanges, misplaced, nobodys}
 use Rattle.model.specs.Profile as Profile
 use Rattle.model.specs.Subobject as Subobject
 use Rattle.model.specs.Sequence.{Stop, stop, Reading, refused, good, exrsOf, ofSystem, ofArea, enter, name, readOne, readAll, meaning}
@@ -34,7 +34,7 @@ use Rattle.model.specs.WorkedCases.{profileW, profileOspf, S, P, Q, T, U
 -- ---- EXRS and other subobjects
 
 -- an EXRS with Q, with X clear and set; with P; with T; with both ends; with P and Q desired
-notQ : List ℕ
+unfoldable pub notQ : List ℕ
 notQ = 0x21 ∷ 0x0c ∷ 0x00 ∷ 0x00 ∷ 0x01 ∷ 0x08 ∷ 0xc0 ∷ 0x00 ∷ 0x02 ∷ 0x0c ∷ 0x20 ∷ 0x01 ∷ []
 
 ratherNotQ : List ℕ
@@ -64,17 +64,17 @@ ratherNot64511 : List ℕ
 ratherNot64511 = 0x21 ∷ 0x08 ∷ 0x00 ∷ 0x00 ∷ 0xa0 ∷ 0x04 ∷ 0xfb ∷ 0xff ∷ []
 
 -- the domains of W, one by one
-to64496 : List ℕ
+unfoldable pub to64496 : List ℕ
 to64496 = 0x20 ∷ 0x04 ∷ 0xfb ∷ 0xf0 ∷ []
 
-to64497 : List ℕ
+unfoldable pub to64497 : List ℕ
 to64497 = 0x20 ∷ 0x04 ∷ 0xfb ∷ 0xf1 ∷ []
 
-to64498 : List ℕ
+unfoldable pub to64498 : List ℕ
 to64498 = 0x20 ∷ 0x04 ∷ 0xfb ∷ 0xf2 ∷ []
 
 -- the entry constraint U
-pinU : List ℕ
+unfoldable pub pinU : List ℕ
 pinU = 0x01 ∷ 0x08 ∷ 0xc0 ∷ 0x00 ∷ 0x02 ∷ 0x16 ∷ 0x20 ∷ 0x00 ∷ []
 
 -- on the second profile: AS 64500 and 64501, the areas 0 and 4
@@ -84,7 +84,7 @@ as64500 = 0x05 ∷ 0x08 ∷ 0x00 ∷ 0x00 ∷ 0x00 ∷ 0x00 ∷ 0xfb ∷ 0xf4 �
 as64501 : List ℕ
 as64501 = 0x05 ∷ 0x08 ∷ 0x00 ∷ 0x00 ∷ 0x00 ∷ 0x00 ∷ 0xfb ∷ 0xf5 ∷ []
 
-area0 : List ℕ
+unfoldable pub area0 : List ℕ
 area0 = 0x06 ∷ 0x08 ∷ 0x00 ∷ 0x00 ∷ 0x00 ∷ 0x00 ∷ 0x00 ∷ 0x00 ∷ []
 
 area4 : List ℕ
@@ -94,10 +94,10 @@ area4 = 0x06 ∷ 0x08 ∷ 0x00 ∷ 0x00 ∷ 0x00 ∷ 0x00 ∷ 0x00 ∷ 0x04 ∷ 
 notArea4 : List ℕ
 notArea4 = 0x21 ∷ 0x0c ∷ 0x00 ∷ 0x00 ∷ 0x06 ∷ 0x08 ∷ 0x00 ∷ 0x00 ∷ 0x00 ∷ 0x00 ∷ 0x00 ∷ 0x04 ∷ []
 
-unread : ℕ → ℕ → Outcome Stop
+unfoldable pub unread : ℕ → ℕ → Outcome Stop
 unread n place = record { numbers = numbers n (place ∷ 0 ∷ 0 ∷ []); written = [] }
 
-unwritten : ℕ → Outcome ℕ
+unfoldable pub unwritten : ℕ → Outcome ℕ
 unwritten n = record { numbers = numbers n (0 ∷ 0 ∷ []); written = [] }
 
 -- ---- what paths keep to: S to Z on W, bandwidth 100.0
@@ -185,5 +185,5 @@ table = kept ++ told
 
 -- every row holds
 pub worked-exrs : map (λ (r : Row). outcome (r .case)) table ≡ map (λ (r : Row). r .expected) table
-unfolding notQ ratherNotQ notP notT notEnds ratherNeither not64498 ratherNot64498 ratherNot64511 to64496 to64497 to64498 pinU as64500 as64501 area0 area4 notArea4 kept told table unread unwritten profileW profileOspf toEnd without desiredWithout plain bounded onW bookOf outcome numbers through at cut treeW calls givesIn gives ends none-there SPUZ SQTZ SQUZ row countFrom keep all any each among allDifferent sum least same below insert different over number bytesOf allZero inTurn inRanges misplaced Profile.headerWrong Profile.countsWrong Profile.lengthWrong Profile.headerVerdict Profile.domainAt Profile.domains Profile.areaLengthFits Profile.domainMalformed Profile.domainMisordered Profile.domainVerdict Profile.hopAt Profile.hops Profile.hopMalformed Profile.hopMisordered Profile.hopVerdict Profile.entryNodes Profile.crowded Profile.crowdedVerdict Profile.profileVerdict Subobject.known Subobject.lengthFits Subobject.plainVerdict Subobject.carriedVerdict Subobject.subobjectVerdict Subobject.namedAt checkedAlong placesAlong Subobject.formVerdict Subobject.subobjects Subobject.carried exrsOf ofSystem ofArea enter name readOne readAll meaning writtenFrom written stops wholeExrs unfit unwritable inForce someDesired excludedDomain excludedNode units inRange atLeast atMost floatOf requestVerdict sequenceOf allExclusions searchIn roundOf searchOf Path.legs Path.keepsBound Path.exclusionsAt Path.allowed Path.hopsFrom Path.suffixes Path.paths Path.admissible Path.cheapest Path.shortestPaths Tree.entriesAt Tree.entry Tree.tree Tree.tally readingOf allExrs readInclude writeList buildTree first greaterThan next book run ofBits toBits ofFields odd size span climb ofInt round isNan Ieee.units trailingZeros Profile.layoutIn
+unfolding notQ ratherNotQ notP notT notEnds ratherNeither not64498 ratherNot64498 ratherNot64511 to64496 to64497 to64498 pinU as64500 as64501 area0 area4 notArea4 kept told table unread unwritten profileW profileOspf toEnd without desiredWithout plain bounded onW bookOf outcome numbers through at cut treeW calls givesIn gives ends none-there SPUZ SQTZ SQUZ row countFrom keep all any each among allDifferent sum least same below insert different over number bytesOf allZero inTurn inRanges misplaced nobodys Profile.headerWrong Profile.countsWrong Profile.lengthWrong Profile.headerVerdict Profile.domainAt Profile.domains Profile.areaLengthFits Profile.domainMalformed Profile.domainMisordered Profile.domainVerdict Profile.hopAt Profile.hops Profile.hopMalformed Profile.hopMisordered Profile.hopVerdict Profile.entryNodes Profile.crowded Profile.crowdedVerdict Profile.profileVerdict Subobject.known Subobject.lengthFits Subobject.fieldWrong Subobject.plainVerdict Subobject.carriedVerdict Subobject.subobjectVerdict Subobject.namedAt checkedAlong placesAlong Subobject.formVerdict Subobject.subobjects Subobject.carried exrsOf ofSystem ofArea enter name readOne readAll meaning writtenFrom written stops wholeExrs unfit unwritable inForce someDesired excludedDomain excludedNode units inRange atLeast atMost floatOf requestVerdict sequenceOf allExclusions searchIn roundOf searchOf Path.legs Path.keepsBound Path.exclusionsAt Path.allowed Path.hopsFrom Path.suffixes Path.paths Path.admissible Path.cheapest Path.shortestPaths Tree.entriesAt Tree.entry Tree.tree Tree.tally readingOf allExrs readInclude writeList buildTree first greaterThan next book run ofBits toBits ofFields odd size span climb ofInt round isNan Ieee.units trailingZeros Profile.layoutIn
 worked-exrs = refl

@@ -1,7 +1,7 @@
 -- One subobject of an ERO's body, check by check: which refusal it is once the checks before have passed, and what a right one says of its bytes.
 -- By putting the type into the definition.
 use mathlib.Core.Path.{_≡_, refl, ap, _∙_}
-use mathlib.Core.Bool.{Bool, true, false, not, or-false}
+use mathlib.Core.Bool.{Bool, true, false, not, _||_, or-false}
 use mathlib.Core.List.{List}
 use Prim.Native.Nat.{ℕ, _+_, _*_, _≤_, _<_}
 use native.Mathlib.Omega.{arith}
@@ -13,7 +13,7 @@ use Rattle.model.specs.declared.Verdict.{Verdict}
 use Rattle.model.specs.declared.Verdict.the-variants.{Pass}
 use Rattle.model.specs.Lists.{any}
 use Rattle.model.specs.Verdict.{refuseIf, _andThen_}
-use Rattle.model.specs.Subobject.{roundedUp, known, lengthFits, typeAt, topAt, lengthAt, areaLengthAt, plainVerdict}
+use Rattle.model.specs.Subobject.{roundedUp, known, lengthFits, typeAt, topAt, lengthAt, areaLengthAt, fieldWrong, plainVerdict}
 use Rattle.refusal.specs.Refused.{refusal}
 use Rattle.pcep_model.specs.Pcrep.{stepVerdict}
 
@@ -25,6 +25,11 @@ known-1 = refl
 pub fits-1 : (a n : ℕ) → lengthFits Include 1 a n ≡ eqb n 8
 unfolding lengthFits any
 fits-1 a n = let e : 8 + 0 * roundedUp a ≡ 8 = omega arith in or-false (eqb n (8 + 0 * roundedUp a)) ∙ ap (eqb n) e
+
+-- of the last check only type 1's part counts
+type-1 : (x : Bool) → (x || false || false || false) ≡ x
+type-1 true = refl
+type-1 false = refl
 
 -- the checks of a subobject of type 1 behind that of its head: t L set, f the right length, p past the end, x a wrong prefix length
 abbrev behind : Bool → Bool → Bool → Bool → ℕ → Verdict
@@ -48,9 +53,9 @@ module _ (e : List ℕ) (at : ℕ) where
     module _ (one : typeAt e at ≡ 1) where
       -- past the type: L, the length, the end, the prefix length
       judged : stepVerdict e at ≡ behind (topAt e at) (eqb (lengthAt e at) 8) (ltb (length e) (at + lengthAt e at)) (not (eqb (getD e (at + 6) 0) 32)) at
-      unfolding stepVerdict plainVerdict
+      unfolding stepVerdict plainVerdict fieldWrong
       judged =
-          rw (one, le-leb (at + 4) (length e) long, le-ltb (length e) (at + 4) long, known-1, fits-1 (areaLengthAt e at) (lengthAt e at), or-false (not (eqb (getD e (at + 6) 0) 32)))
+          rw (one, le-leb (at + 4) (length e) long, le-ltb (length e) (at + 4) long, known-1, fits-1 (areaLengthAt e at) (lengthAt e at), type-1 (not (eqb (getD e (at + 6) 0) 32)))
           (no-area (topAt e at) (eqb (lengthAt e at) 8) (ltb (length e) (at + lengthAt e at)) (not (eqb (getD e (at + 6) 0) 32)) at)
 
       pub top-set : 128 ≤ getD e at 0 → stepVerdict e at ≡ refusal 27 at

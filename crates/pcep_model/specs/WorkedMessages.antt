@@ -12,7 +12,7 @@ use Rattle.model.specs.declared.TreeEntry.{TreeEntry}
 use Rattle.model.specs.Lists.{countFrom, keep, all, any, each, among, allDifferent, sum, least, same, below, insert, different}
 use Rattle.model.specs.Bytes.{number, bytesOf, allZero}
 use Rattle.model.specs.Verdict.{inTurn}
-use Rattle.model.specs.Reserved.{inRanges, misplaced}
+use Rattle.model.specs.Reserved.{inRanges, misplaced, nobodys}
 use Rattle.model.specs.Profile as Profile
 use Rattle.model.specs.Subobject as Subobject
 use Rattle.model.specs.Sequence.{exrsOf, ofSystem, ofArea, enter, name, readOne, readAll, meaning}
@@ -95,6 +95,14 @@ lateIro =
 -- an EXRS with nothing inside
 emptyIro : List ℕ
 emptyIro = 0x0a ∷ 0x10 ∷ 0x00 ∷ 0x0c ∷ 0x20 ∷ 0x04 ∷ 0xfb ∷ 0xf1 ∷ 0x21 ∷ 0x04 ∷ 0x00 ∷ 0x00 ∷ []
+
+-- 64497, then 23456, which is nobody's
+transIro : List ℕ
+transIro = 0x0a ∷ 0x10 ∷ 0x00 ∷ 0x0c ∷ 0x20 ∷ 0x04 ∷ 0xfb ∷ 0xf1 ∷ 0x20 ∷ 0x04 ∷ 0x5b ∷ 0xa0 ∷ []
+
+-- AS 0 excluded
+zeroXro : List ℕ
+zeroXro = 0x11 ∷ 0x10 ∷ 0x00 ∷ 0x10 ∷ 0x00 ∷ 0x00 ∷ 0x00 ∷ 0x00 ∷ 0x05 ∷ 0x08 ∷ 0x00 ∷ 0x00 ∷ 0x00 ∷ 0x00 ∷ 0x00 ∷ 0x00 ∷ []
 
 -- F set; Q, 192.0.2.12, excluded
 xro : List ℕ
@@ -291,6 +299,11 @@ answers =
     ∷ row (readingPcreq (pcreq 0x38 (rp ++ endPoints ++ bandwidth ++ lateIro)) 0)
     (fields (record { numbers = numbers 0 (0 ∷ 7 ∷ 0x23 ∷ 0xc0000201 ∷ 0xc0000263 ∷ 0x42c80000 ∷ 0 ∷ 40 ∷ 16 ∷ 0 ∷ 0 ∷ []); written = [] }))
     ∷ row (readingPcreq (pcreq 0x30 (rp ++ endPoints ++ bandwidth ++ emptyIro)) 0) (unread 26 4)
+    -- an AS that is nobody's in the IRO, and in the XRO, at its offset in the list
+    ∷ row (readingPcreq (pcreq 0x30 (rp ++ endPoints ++ bandwidth ++ transIro)) 0) (unread 26 4)
+    ∷ row (starting (pcreq 0x30 (rp ++ endPoints ++ bandwidth ++ transIro)) 4) (no-answer 26 4)
+    ∷ row (readingPcreq (pcreq 0x40 (rp ++ endPoints ++ bandwidth ++ iro ++ zeroXro)) 0) (unread 26 0)
+    ∷ row (starting (pcreq 0x40 (rp ++ endPoints ++ bandwidth ++ iro ++ zeroXro)) 4) (no-answer 26 0)
     -- 36 to 40 come before all else, here no END-POINTS
     ∷ row (starting (pcreq 0x24 (rp ++ bandwidth ++ iro)) 4) (no-answer 40 0)
     ∷ []
@@ -328,5 +341,5 @@ table = requests ++ answers ++ exchanged
 
 -- every row holds
 pub worked-messages : map (λ (r : Row). outcome (r .case)) table ≡ map (λ (r : Row). r .expected) table
-unfolding pcreq pcrep rp cleanRp rpWithTlv endPoints bandwidth metric14 metric13 endless iro longIro exrsIro lateIro emptyIro xro demandedOf otherOf ero mixedEro zeroEro noPath asks asksWith asksWithBoth asksMore pathFound noneFound outcome row numbers metric unread no-answer no-reply costs14 at SPUZ SQTZ SQUZ route noRoute replied requests answers exchanged table profileW countFrom keep all any each among allDifferent sum least same below insert different number bytesOf allZero inTurn inRanges misplaced Profile.headerWrong Profile.countsWrong Profile.lengthWrong Profile.headerVerdict Profile.domainAt Profile.domains Profile.areaLengthFits Profile.domainMalformed Profile.domainMisordered Profile.domainVerdict Profile.hopAt Profile.hops Profile.hopMalformed Profile.hopMisordered Profile.hopVerdict Profile.entryNodes Profile.crowded Profile.crowdedVerdict Profile.profileVerdict Subobject.known Subobject.lengthFits Subobject.plainVerdict Subobject.carriedVerdict Subobject.subobjectVerdict Subobject.namedAt Subobject.formVerdict Subobject.subobjects Subobject.carried exrsOf ofSystem ofArea enter name readOne readAll meaning inForce someDesired excludedDomain excludedNode units inRange atLeast atMost floatOf requestVerdict sequenceOf allExclusions searchIn roundOf searchOf Path.legs Path.keepsBound Path.exclusionsAt Path.allowed Path.hopsFrom Path.suffixes Path.paths Path.admissible Path.cheapest Path.shortestPaths Tree.entriesAt Tree.entry Tree.tree Tree.tally buildTree first greaterThan next ofBits toBits ofFields odd size span climb ofInt round isNan Ieee.units trailingZeros checkedAlong placesAlong firstOf knownObject ownLength objectVerdict firstObject messageVerdict metrics wrongMetric boundMetric pcreqVerdict readPcreq pcreqTree pcreqFirst pcreqNext stepVerdict addressesIn pcrepVerdict readPcrep writtenPcrep writeVerdict writePcrep metricsOf Profile.layoutIn
+unfolding pcreq pcrep rp cleanRp rpWithTlv endPoints bandwidth metric14 metric13 endless iro longIro exrsIro lateIro emptyIro transIro zeroXro xro demandedOf otherOf ero mixedEro zeroEro noPath asks asksWith asksWithBoth asksMore pathFound noneFound outcome row numbers metric unread no-answer no-reply costs14 at SPUZ SQTZ SQUZ route noRoute replied requests answers exchanged table profileW countFrom keep all any each among allDifferent sum least same below insert different number bytesOf allZero inTurn inRanges misplaced nobodys Profile.headerWrong Profile.countsWrong Profile.lengthWrong Profile.headerVerdict Profile.domainAt Profile.domains Profile.areaLengthFits Profile.domainMalformed Profile.domainMisordered Profile.domainVerdict Profile.hopAt Profile.hops Profile.hopMalformed Profile.hopMisordered Profile.hopVerdict Profile.entryNodes Profile.crowded Profile.crowdedVerdict Profile.profileVerdict Subobject.known Subobject.lengthFits Subobject.fieldWrong Subobject.plainVerdict Subobject.carriedVerdict Subobject.subobjectVerdict Subobject.namedAt Subobject.formVerdict Subobject.subobjects Subobject.carried exrsOf ofSystem ofArea enter name readOne readAll meaning inForce someDesired excludedDomain excludedNode units inRange atLeast atMost floatOf requestVerdict sequenceOf allExclusions searchIn roundOf searchOf Path.legs Path.keepsBound Path.exclusionsAt Path.allowed Path.hopsFrom Path.suffixes Path.paths Path.admissible Path.cheapest Path.shortestPaths Tree.entriesAt Tree.entry Tree.tree Tree.tally buildTree first greaterThan next ofBits toBits ofFields odd size span climb ofInt round isNan Ieee.units trailingZeros checkedAlong placesAlong firstOf knownObject ownLength objectVerdict firstObject messageVerdict metrics wrongMetric boundMetric pcreqVerdict readPcreq pcreqTree pcreqFirst pcreqNext stepVerdict addressesIn pcrepVerdict readPcrep writtenPcrep writeVerdict writePcrep metricsOf Profile.layoutIn
 worked-messages = refl

@@ -4,6 +4,7 @@ use profile_records::domain::domain_at;
 use profile_records::header::class_of;
 use profile_records::header::domain_count;
 use profile_reserved::as_misplaced;
+use profile_reserved::as_nobodys;
 use refusal::first_wrong;
 use wire::order::record_below;
 ghost use mathlib.Core.Path.{_≡_};
@@ -38,7 +39,7 @@ fn zero_after(area: &[u8; 13], used: usize) -> bool
     true
 }
 
-// Kind unknown, length not the kind's, an area byte after the length or the last byte not zero.
+// Kind unknown, length not the kind's, an area byte after the length or the last byte not zero, an AS that is nobody's.
 fn domain_malformed(s: &[u8], i: usize) -> bool
     requires { ⌜ domainStart i + 20 ≤ length (now s) ⌝ }
     ensures { λ r. ⌜ r ≡ domainMalformed (now (s .entry)) i ⌝ }
@@ -49,7 +50,8 @@ fn domain_malformed(s: &[u8], i: usize) -> bool
     let last = s[12 + 20 * i + 19];
     let fits = area_length_fits(d.kind, d.length);
     let padded = zero_after(&area, used);
-    !fits | !padded | (last != 0)
+    let nobodys = as_nobodys(d.asn);
+    !fits | !padded | (last != 0) | nobodys
 }
 
 // Not above the record before it, compared as bytes; or the record before it is of kind 0 and of the same AS.

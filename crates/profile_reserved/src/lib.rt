@@ -1,11 +1,11 @@
-// The reserved ranges of AS numbers (RFC 5398) and of addresses (RFC 5737), and what the two classes of profile ask.
+// The reserved ranges of AS numbers (RFC 5398) and of addresses (RFC 5737), and what the two classes of profile ask; the AS numbers that are nobody's.
 use model::NodeAddress;
 ghost use mathlib.Core.Path.{_≡_};
 ghost use mathlib.Core.Bool.{cond, not};
 ghost use Prim.Native.Nat.{_≤_};
 ghost use lib.Dec.{eqb};
 ghost use lib.Seq.{slice};
-ghost use Rattle.model.specs.Reserved.{asRanges, addressRanges, inRanges, misplaced};
+ghost use Rattle.model.specs.Reserved.{asRanges, addressRanges, inRanges, misplaced, nobodys};
 ghost use Rattle.profile_reserved.specs.Table.{reserved};
 
 // The first and the last number of a range.
@@ -80,4 +80,11 @@ pub fn address_misplaced(class: u8, x: NodeAddress) -> bool
 {
     let inside = lies_in(2, 5, x.0);
     misplaced_by(class, inside)
+}
+
+// AS 0 (RFC 7607) and AS_TRANS, 23456 (RFC 6793), in no class and in no list.
+pub fn as_nobodys(x: u32) -> bool
+    ensures { λ r. ⌜ r ≡ nobodys x ⌝ }
+{
+    (x == 0) | (x == 23456)
 }

@@ -4,7 +4,7 @@
 
 use super::draft::{domain_record, hop_record, Draft, Record};
 use super::random::Random;
-use super::shapes::{self, FREE_AS, FREE_NODES, RESERVED_AS, RESERVED_NODES};
+use super::shapes::{self, FREE_AS, FREE_NODES, NOBODYS_AS, RESERVED_AS, RESERVED_NODES};
 use crate::profile::{NO_AREA, OSPF};
 use std::collections::{BTreeMap, BTreeSet};
 
@@ -18,7 +18,7 @@ pub struct Planned {
 
 pub fn planned(random: &mut Random) -> Planned {
     let draft = shapes::valid(random);
-    let damaged = match random.below(20) {
+    let damaged = match random.below(21) {
         0..=1 => cut(random, &draft),
         2 => lengthened(random, &draft),
         3..=4 => header_field(random, &draft),
@@ -31,6 +31,7 @@ pub fn planned(random: &mut Random) -> Planned {
         14..=15 => hop_field(random, draft.clone()),
         16..=17 => hop_order(random, draft.clone()),
         18 => seventeenth_node(random, draft.clone()),
+        19 => Some(nobodys_as(random, draft.clone())),
         _ => Some(other_class(draft.clone())),
     };
     // Damage that needs a record the profile lacks falls back to a field.
@@ -166,11 +167,30 @@ fn domain_pool(random: &mut Random, mut draft: Draft) -> Planned {
         random.pick(&FREE_AS)
     };
     let index = random.below(draft.domains.len());
-    draft.domains[index][..4].copy_from_slice(&wrong.to_be_bytes());
+    let place = replace_as(&mut draft, index, wrong);
+    plan(draft.encode(), 16, place)
+}
+
+/// One AS that is nobody's, in its order or where the record stood, since that is
+/// told before the order.
+fn nobodys_as(random: &mut Random, mut draft: Draft) -> Planned {
+    let wrong = random.pick(&NOBODYS_AS);
+    let index = random.below(draft.domains.len());
+    let place = if random.chance(1, 2) {
+        replace_as(&mut draft, index, wrong)
+    } else {
+        draft.domains[index][..4].copy_from_slice(&wrong.to_be_bytes());
+        index
+    };
+    plan(draft.encode(), 14, place)
+}
+
+/// Gives a domain another AS and puts it in its order; its place there.
+fn replace_as(draft: &mut Draft, index: usize, as_number: u32) -> usize {
+    draft.domains[index][..4].copy_from_slice(&as_number.to_be_bytes());
     let moved = draft.domains[index];
     draft.domains.sort();
-    let place = position(&draft.domains, &moved);
-    plan(draft.encode(), 16, place)
+    position(&draft.domains, &moved)
 }
 
 /// One node from the other side of the edges, in its order.

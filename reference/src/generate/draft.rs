@@ -45,6 +45,14 @@ impl Draft {
             .filter(|record| record[..4] == as_bytes)
             .count()
     }
+
+    /// The least AS number that none of its domains has, but 0, which no list may
+    /// have either.
+    pub fn lacked_as(&self) -> u32 {
+        let mut numbers = 1..;
+        let lacked = numbers.find(|&number| self.domains_of(number) == 0);
+        lacked.expect("it has 64 domains at most")
+    }
 }
 
 /// A domain record; `area` has at most 13 bytes.

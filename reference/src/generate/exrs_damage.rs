@@ -3,7 +3,7 @@
 
 use super::exrs::{aimed, unwrap, wrap, LONGEST};
 use super::list_plan::{first_as_of_several, offset_of};
-use super::lists::{address_piece, area_piece, as_piece, Include, Piece};
+use super::lists::{address_piece, area_piece, as_piece, nobodys_piece, Include, Piece};
 use super::random::Random;
 use super::shapes;
 
@@ -102,14 +102,16 @@ pub fn fault_inside(random: &mut Random, exrs: &mut Piece) -> Fault {
     Some((number, offset))
 }
 
-/// An exclusion with a field out of range or padding that isn't zero.
+/// An exclusion with a field out of range, an AS that is nobody's among them, or
+/// padding that isn't zero.
 fn field_out_of_range(random: &mut Random) -> Piece {
     let x = random.pick(&[0, 0x80]);
     let node = random.bits();
-    let mut piece = match random.below(4) {
+    let mut piece = match random.below(6) {
         0 => address_piece(node, random.between(33, 255) as u8, 1),
         1 => address_piece(node, 32, random.pick(&[0, 2, 255])),
         2 => vec![7, 8, random.pick(&[0, 14, 255]), 0, 0, 0, 0, 0],
+        3..=4 => nobodys_piece(random),
         _ => vec![7, 8, 3, 0, 0x49, 0, 1, 1],
     };
     piece[0] |= x;
@@ -162,7 +164,7 @@ pub fn with_exrs_between(random: &mut Random, include: &mut Include, route: &[us
             Some((29, offset))
         }
         2 => {
-            let lacked = (0..).find(|&number| include.draft.domains_of(number) == 0)?;
+            let lacked = include.draft.lacked_as();
             include.pieces.push(as_piece(random, lacked));
             push_any(random, include, route);
             include.pieces.push(area_piece(random, 1, &[0; 4]));

@@ -1,7 +1,7 @@
 //! What can be wrong with a list: in form (23 to 27), in meaning (28 to 32),
 //! and in length (22).
 
-use super::lists::{any_area, as_piece, entry_node, route, Include, Piece};
+use super::lists::{any_area, as_piece, entry_node, nobodys_piece, route, Include, Piece};
 use super::random::Random;
 use super::shapes;
 
@@ -17,7 +17,7 @@ pub fn spoil_form(random: &mut Random, pieces: &mut Vec<Piece>) {
         return;
     }
     let index = random.below(pieces.len());
-    match random.below(7) {
+    match random.below(8) {
         0 => cut_list(random, pieces, index),
         1 => pieces[index][0] = (pieces[index][0] & 0x80) | random.pick(&UNKNOWN_TYPES),
         2 => pieces[index][0] |= 0x80,
@@ -35,6 +35,7 @@ pub fn spoil_form(random: &mut Random, pieces: &mut Vec<Piece>) {
             piece.extend([prefix, attribute]);
             pieces.insert(index, piece);
         }
+        6 => pieces.insert(index, nobodys_piece(random)),
         _ => {
             let more = random.between(1, 3);
             pieces.push(random.bytes(more));
@@ -83,7 +84,7 @@ pub fn spoil_meaning(random: &mut Random, include: &mut Include, route: &[usize]
     }
     match random.below(6) {
         0 => {
-            let unknown = random.bits() >> random.below(32);
+            let unknown = shapes::any_as(random);
             include.pieces.push(as_piece(random, unknown));
             if random.chance(1, 2) {
                 include.pieces.push(any_area(random));

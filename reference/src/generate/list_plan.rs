@@ -4,7 +4,7 @@
 use super::draft::Draft;
 use super::exrs::for_route;
 use super::exrs_damage::{fault_in_exrs, left_over, with_exrs_between};
-use super::lists::{area_piece, as_piece, entry_node, route, Include, Piece};
+use super::lists::{area_piece, as_piece, entry_node, nobodys_piece, route, Include, Piece};
 use super::random::Random;
 use super::shapes;
 
@@ -138,11 +138,12 @@ fn fault_in_form(random: &mut Random, pieces: &mut Vec<Piece>) -> Option<(u32, u
     Some((number, offset))
 }
 
-/// Only addresses and IS-IS areas have fields that can be out of range.
+/// All but OSPF areas have fields that can be out of range.
 fn field_out_of_range(random: &mut Random, piece: &mut Piece) -> Option<u32> {
     let area_length = usize::from(piece[2]);
     match piece[0] {
         1 => piece[6] = random.pick(&[0, 1, 31, 33, 255]),
+        5 | 32 => *piece = nobodys_piece(random),
         7 if area_length % 4 != 0 && random.chance(1, 2) => {
             let last = piece.len() - 1;
             piece[random.between(4 + area_length, last)] = 0x40;
@@ -201,8 +202,7 @@ fn name_wrongly(
 
 /// An AS the profile lacks: at the AS if it stands alone, else at the area.
 fn unknown_as(random: &mut Random, include: &mut Include, offset: usize) -> Option<(u32, usize)> {
-    let unknown = (0..).find(|&as_number| include.draft.domains_of(as_number) == 0)?;
-    let piece = as_piece(random, unknown);
+    let piece = as_piece(random, include.draft.lacked_as());
     let after = offset + piece.len();
     include.pieces.push(piece);
     if random.chance(1, 2) {

@@ -39,6 +39,12 @@ pub fn as_piece(random: &mut Random, as_number: u32) -> Piece {
     piece
 }
 
+/// An AS that no list may have.
+pub fn nobodys_piece(random: &mut Random) -> Piece {
+    let as_number = random.pick(&shapes::NOBODYS_AS);
+    as_piece(random, as_number)
+}
+
 pub fn area_piece(random: &mut Random, kind: u8, area: &[u8]) -> Piece {
     let mut piece = Vec::new();
     if kind == OSPF {
@@ -234,7 +240,7 @@ pub fn exclude_piece(random: &mut Random, draft: &Draft) -> Piece {
         }
         2 => any_area(random),
         3 => {
-            let as_number = random.bits() >> random.below(32);
+            let as_number = shapes::any_as(random);
             as_piece(random, as_number)
         }
         _ => exclude_address(random, draft),

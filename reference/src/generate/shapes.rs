@@ -19,8 +19,12 @@ const BANDWIDTHS: [u32; 8] = [
     0x3F80_0000,
 ];
 
-/// AS numbers at the edges of the reserved ranges, outside them.
-pub const FREE_AS: [u32; 8] = [0, 1, 64_495, 64_512, 65_535, 65_552, 100, u32::MAX];
+/// AS numbers at the edges of the reserved ranges, outside them, and beside those
+/// that are nobody's.
+pub const FREE_AS: [u32; 8] = [1, 23_455, 64_495, 64_512, 23_457, 65_535, 65_552, u32::MAX];
+
+/// AS numbers that no domain and no list may have.
+pub const NOBODYS_AS: [u32; 2] = [0, 23_456];
 
 /// AS numbers at the edges of the reserved ranges, inside them.
 pub const RESERVED_AS: [u32; 4] = [64_496, 64_511, 65_536, 65_551];
@@ -271,7 +275,20 @@ fn as_number(random: &mut Random, live: bool, spread: usize) -> u32 {
         (false, 0..=3) => random.pick(&RESERVED_AS),
         (false, _) => random.pick(&[64_496, 65_536]) + random.below(16) as u32,
         (true, 0..=7) => FREE_AS[pick],
-        (true, _) => free(random, reserved::as_number),
+        (true, _) => free(random, |value| {
+            reserved::as_number(value) || reserved::nobodys(value)
+        }),
+    }
+}
+
+/// An AS number of any size that a list may have, whether or not the profile has
+/// it.
+pub fn any_as(random: &mut Random) -> u32 {
+    loop {
+        let value = random.bits() >> random.below(32);
+        if !reserved::nobodys(value) {
+            return value;
+        }
     }
 }
 
@@ -309,15 +326,15 @@ pub fn nodes(random: &mut Random, live: bool, count: usize) -> Vec<u32> {
     nodes.into_iter().collect()
 }
 
-/// A number outside the reserved ranges.
-fn free(random: &mut Random, is_reserved: fn(u32) -> bool) -> u32 {
+/// A number that isn't set apart.
+fn free(random: &mut Random, set_apart: fn(u32) -> bool) -> u32 {
     loop {
         let value = if random.chance(1, 2) {
             random.bits()
         } else {
             random.bits() % 65_536
         };
-        if !is_reserved(value) {
+        if !set_apart(value) {
             return value;
         }
     }

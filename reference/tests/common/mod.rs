@@ -3,6 +3,7 @@
 
 pub mod desired;
 pub mod messages;
+pub mod nobodys;
 pub mod replies;
 pub mod rows;
 
@@ -39,6 +40,12 @@ pub fn domain(as_number: u32, kind: u8, area: &[u8]) -> Vec<u8> {
     record.extend(area);
     record.resize(20, 0);
     record
+}
+
+/// Domains without areas, in the order given.
+pub fn plain_domains(as_numbers: &[u32]) -> Vec<Vec<u8>> {
+    let record = |&as_number: &u32| domain(as_number, 0, &[]);
+    as_numbers.iter().map(record).collect()
 }
 
 pub fn hop(from: u16, to: u16, u: u32, v: u32, cost: u32, bandwidth: u32) -> Vec<u8> {

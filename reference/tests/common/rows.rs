@@ -1,7 +1,7 @@
 //! Profiles whose domains stand in a row, so that a path's total is known from
 //! how they are made.
 
-use super::{domain, file, hop, B100, S};
+use super::{file, hop, plain_domains, B100, S};
 
 /// The include list that goes on from the first of so many domains to the last.
 fn crossing(domains: u16) -> Vec<u8> {
@@ -13,10 +13,8 @@ fn crossing(domains: u16) -> Vec<u8> {
 }
 
 fn domains_of(count: u16) -> Vec<Vec<u8>> {
-    let as_numbers = (0..count).map(|i| 64496 + u32::from(i));
-    as_numbers
-        .map(|as_number| domain(as_number, 0, &[]))
-        .collect()
+    let as_numbers: Vec<u32> = (0..count).map(|i| 64496 + u32::from(i)).collect();
+    plain_domains(&as_numbers)
 }
 
 /// One hop of each domain, from the node that the one before leads to.

@@ -14,6 +14,7 @@ NODES, AS, OSPF_AREA, ISIS_AREA, SHORT_AS = 1, 5, 6, 7, 32
 MOST_BYTES = 252
 MOST_AREA = 13
 NODE = 1  # the attribute of an address that is a node's
+NOBODYS = 0, 23456  # AS numbers that no network has (RFC 7607, RFC 6793)
 
 
 @dataclass(frozen=True)
@@ -92,7 +93,10 @@ def read_exrs(data: Octets) -> list[Exclusion]:
 def _subobject(exclusion: Exclusion) -> bytes:
     match exclusion:
         case WithoutAs(number):
-            kind, body = AS, bytes(2) + field(number, 32, "number").to_bytes(4, "big")
+            as_number = field(number, 32, "number")
+            if as_number in NOBODYS:
+                raise ValueError(f"number: AS {as_number} is nobody's")
+            kind, body = AS, bytes(2) + as_number.to_bytes(4, "big")
         case WithoutOspfArea(number):
             kind, body = OSPF_AREA, bytes(2) + field(number, 32, "number").to_bytes(4, "big")
         case WithoutIsisArea(area):
@@ -132,10 +136,9 @@ def _exclusion(data: bytes) -> Exclusion | None:
     kind, length = data[0] & ~X, data[1]
     if kind == NODES and length == 8 and piece[6] <= 32 and piece[7] == NODE:
         return WithoutNodes(dotted(_number(piece[2:6])), piece[6], desired)
-    if kind == AS and length == 8:
-        return WithoutAs(_number(piece[4:]), desired)
-    if kind == SHORT_AS and length == 4:
-        return WithoutAs(_number(piece[2:]), desired)
+    if (kind, length) in ((AS, 8), (SHORT_AS, 4)):
+        number = _number(piece[length // 2 :])
+        return None if number in NOBODYS else WithoutAs(number, desired)
     if kind == OSPF_AREA and length == 8:
         return WithoutOspfArea(_number(piece[4:]), desired)
     if kind == ISIS_AREA and 1 <= piece[2] <= MOST_AREA:

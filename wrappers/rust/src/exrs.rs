@@ -17,6 +17,7 @@ const NODE: u8 = 1;
 /// What can be excluded.
 #[derive(Clone, Debug, PartialEq, Eq, Hash)]
 pub enum Excluded {
+    /// Any but 0 and 23456, which are nobody's.
     As(u32),
     OspfArea(u32),
     /// Of 1 to 13 bytes.
@@ -71,6 +72,8 @@ pub enum ExrsError {
     Prefix(u8),
     /// How many bytes the IS-IS area has.
     Area(usize),
+    /// The AS, which is nobody's.
+    As(u32),
     /// Where a subobject stands that isn't whole or has a wrong form.
     Form(usize),
 }
@@ -85,6 +88,7 @@ impl fmt::Display for ExrsError {
             ),
             ExrsError::Prefix(length) => write!(f, "a prefix length is at most 32, not {length}"),
             ExrsError::Area(bytes) => write!(f, "an IS-IS area has 1 to 13 bytes, not {bytes}"),
+            ExrsError::As(number) => write!(f, "AS {number} is nobody's"),
             ExrsError::Form(offset) => write!(f, "no EXRS of right form at offset {offset}"),
         }
     }
@@ -111,6 +115,7 @@ pub fn write_exrs(exclusions: &[Exclusion]) -> Result<Vec<u8>, ExrsError> {
 fn subobject(exclusion: &Exclusion) -> Result<Vec<u8>, ExrsError> {
     let long = |kind, number: u32| [&[kind, 8, 0, 0][..], &number.to_be_bytes()].concat();
     let mut bytes = match &exclusion.what {
+        Excluded::As(number) if nobodys(*number) => return Err(ExrsError::As(*number)),
         Excluded::As(number) => long(5, *number),
         Excluded::OspfArea(area) => long(6, *area),
         Excluded::IsisArea(area) if area.is_empty() || area.len() > MOST_AREA => {
@@ -131,6 +136,11 @@ fn subobject(exclusion: &Exclusion) -> Result<Vec<u8>, ExrsError> {
         bytes[0] |= X;
     }
     Ok(bytes)
+}
+
+/// AS numbers that no network has: 0 (RFC 7607) and 23456 (RFC 6793).
+fn nobodys(number: u32) -> bool {
+    matches!(number, 0 | 23456)
 }
 
 /// The whole length of the subobject of an IS-IS area.
@@ -183,6 +193,9 @@ fn exclusion(bytes: &[u8]) -> Option<(Exclusion, usize)> {
         (32, &[_, _, a, b]) => Excluded::As(u16::from_be_bytes([a, b]).into()),
         _ => return None,
     };
+    if matches!(what, Excluded::As(number) if nobodys(number)) {
+        return None;
+    }
     let desired = first & X != 0;
     Some((Exclusion { what, desired }, length))
 }

@@ -75,6 +75,15 @@ fn not_made() {
         let text = format!("an IS-IS area has 1 to 13 bytes, not {length}");
         refused(&[area], ExrsError::Area(length), &text);
     }
+    for number in [0, 23456] {
+        let nobodys = Excluded::As(number).desired();
+        let text = format!("AS {number} is nobody's");
+        refused(&[nobodys], ExrsError::As(number), &text);
+        assert!(write_exrs(&[Excluded::As(number + 1).desired()]).is_ok());
+    }
+    for nobodys in ["21080000 20040000", "210C0000 85080000 00005BA0"] {
+        assert_eq!(read_exrs(&bytes(nobodys)), Err(ExrsError::Form(4)));
+    }
     let cut = bytes("210C0000 0108C000 020C2001 21080000 2004FB");
     let form = ExrsError::Form(12);
     assert_eq!(read_exrs(&cut), Err(form));

@@ -3,10 +3,11 @@ use native.Mathlib.Omega.{arith}
 use Prim.Native.Nat.{ℕ, _+_}
 use mathlib.Core.Path.{ap, _∙_}
 use mathlib.Core.Bool.{not}
+use Rattle.model.specs.Reserved.{nobodys}
 use Rattle.model.specs.Subobject.{areaLengthAt}
 use Rattle.list_form.specs.Checks.{zeroFrom}
-use Rattle.list_subobject.proofs.FormLaws.{room-1, padded}
-use Rattle.list_form.proofs.FormChecks.{padding, field-1, field-7, field-none}
+use Rattle.list_subobject.proofs.FormLaws.{room-1, room-5, padded}
+use Rattle.list_form.proofs.FormChecks.{padding, field-1, field-7, field-5, field-32, field-none}
 use borrow.Author.Needs.{needs}
 use Rattle.list_form.proofs.field_wrong.Statement.{statement}
 use Rattle.list_form.proofs.field_wrong.Tie as tie
@@ -69,10 +70,45 @@ returns-2 c =
     ∙ padding (c .before .before .before .before .before .before .before .before .before .pre) e
     ∙ field-7 (a .kind) (a .list .now) (a .at) e
 
+add-u32-at : tie.Need-add-u32-at
+add-u32-at c = search needs
+
+u32-at-requires : tie.Need-u32-at-requires
+u32-at-requires c κs =
+    let room = room-5 (c .before .before .before .before .before .pre) (c .if3 .taken) in
+    omega arith
+
+as-nobodys-requires : tie.Need-as-nobodys-requires
+as-nobodys-requires c κs = search needs
+
 returns-3 : tie.Need-returns-3
 returns-3 c =
-    let a = c .before .before .before .before .args in
-    field-none (a .kind) (a .list .now) (a .at) (c .before .if1 .left) (c .if2 .left)
+    let five = c .before .before in
+    let a = five .before .before .before .before .before .args in
+    c .as-nobodys .ensures ∙ ap nobodys (c .before .u32-at .ensures) ∙ field-5 (a .kind) (a .list .now) (a .at) (five .if3 .taken)
+
+add-u16-at : tie.Need-add-u16-at
+add-u16-at c = search needs
+
+u16-at-requires : tie.Need-u16-at-requires
+u16-at-requires c κs = search needs
+
+cast-as-nobodys : tie.Need-cast-as-nobodys
+cast-as-nobodys c = search needs
+
+as-nobodys-requires-2 : tie.Need-as-nobodys-requires-2
+as-nobodys-requires-2 c κs = search needs
+
+returns-4 : tie.Need-returns-4
+returns-4 c =
+    let two = c .before .before in
+    let a = two .before .before .before .before .before .before .args in
+    c .as-nobodys2 .ensures ∙ ap nobodys (c .before .u16-at .ensures) ∙ field-32 (a .kind) (a .list .now) (a .at) (two .if4 .taken)
+
+returns-5 : tie.Need-returns-5
+returns-5 c =
+    let a = c .before .before .before .before .before .before .args in
+    field-none (a .kind) (a .list .now) (a .at) (c .before .before .before .if1 .left) (c .before .before .if2 .left) (c .before .if3 .left) (c .if4 .left)
 
 pub field-wrong-spec : {M : Type 1} → statement M
 field-wrong-spec =
@@ -92,4 +128,13 @@ field-wrong-spec =
     add-all-zero
     all-zero-requires
     returns-2
-    returns-3)
+    add-u32-at
+    u32-at-requires
+    as-nobodys-requires
+    returns-3
+    add-u16-at
+    u16-at-requires
+    cast-as-nobodys
+    as-nobodys-requires-2
+    returns-4
+    returns-5)

@@ -28,11 +28,15 @@ area-length-fits-requires c κs = search needs
 zero-after-requires : tie.Need-zero-after-requires
 zero-after-requires c κs = search needs
 
+as-nobodys-requires : tie.Need-as-nobodys-requires
+as-nobodys-requires c κs = search needs
+
 returns : tie.Need-returns
 unfolding domainMalformed
 returns c =
-    let fits = c .before .before in
-    rw (c .zero-after .ensures, fits .area-length-fits .ensures, fits .before .before .before .before .domain-at .ensures)
+    let padded = c .before in
+    let fits = padded .before .before in
+    rw (c .as-nobodys .ensures, padded .zero-after .ensures, fits .area-length-fits .ensures, fits .before .before .before .before .domain-at .ensures)
 
 pub domain-malformed-spec : {M : Type 1} → statement M
 domain-malformed-spec =
@@ -46,4 +50,5 @@ domain-malformed-spec =
     shared-slice-read-last
     area-length-fits-requires
     zero-after-requires
+    as-nobodys-requires
     returns)
