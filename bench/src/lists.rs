@@ -6,13 +6,16 @@ use reference::generate;
 use tests::lists::{is_is, long_as, ReadCall};
 use tests::writing::WriteCall;
 
-/// A sequence of 16 domains, as both calls have it.
+/// A sequence of 16 domains, as both calls have it; of the bytes for EXRS as many
+/// as `exrs_size` are used.
+#[derive(Debug, PartialEq)]
 struct Sequence {
     domains: [u16; 16],
     pinned: [u8; 16],
     pins: [u32; 16],
     exrs_counts: [u32; 16],
-    exrs: Vec<u8>,
+    exrs: [u8; 1_024],
+    exrs_size: usize,
 }
 
 /// The domains 0 to 15, all but the first with an entry constraint.
@@ -22,7 +25,8 @@ fn constrained() -> Sequence {
         pinned: std::array::from_fn(|i| u8::from(i > 0)),
         pins: std::array::from_fn(|i| 0xC633_6400 + 16 * i as u32),
         exrs_counts: [0; 16],
-        exrs: Vec::new(),
+        exrs: [0; 1_024],
+        exrs_size: 0,
     }
 }
 
@@ -62,7 +66,7 @@ pub fn list_of_1024_bytes() -> Vec<u8> {
 
 fn read_by(call: ReadCall, profile: &[u8], include: &[u8]) -> Sequence {
     let (mut domains, mut pinned, mut pins) = ([0; 16], [0; 16], [0; 16]);
-    let (mut exrs_counts, mut exrs) = ([0; 16], vec![0; 1_024]);
+    let (mut exrs_counts, mut exrs) = ([0; 16], [0; 1_024]);
     let mut numbers = [0; 3];
     let number = call(
         profile,
@@ -75,38 +79,19 @@ fn read_by(call: ReadCall, profile: &[u8], include: &[u8]) -> Sequence {
         &mut exrs,
         &mut numbers,
     );
-    assert_eq!((number, numbers[1]), (0, 16));
-    exrs.truncate(numbers[2] as usize);
+    assert_eq!((number, numbers[0], numbers[1]), (0, 0, 16));
     Sequence {
         domains,
         pinned,
         pins,
         exrs_counts,
         exrs,
+        exrs_size: numbers[2] as usize,
     }
 }
 
 fn race_read_include(name: &str, profile: &[u8], include: &[u8]) {
-    let by = |call: ReadCall| {
-        move || {
-            let (mut domains, mut pinned, mut pins) = ([0; 16], [0; 16], [0; 16]);
-            let (mut exrs_counts, mut exrs) = ([0; 16], [0; 1_024]);
-            let mut numbers = [0; 3];
-            let number = call(
-                profile,
-                0,
-                include,
-                &mut domains,
-                &mut pinned,
-                &mut pins,
-                &mut exrs_counts,
-                &mut exrs,
-                &mut numbers,
-            );
-            assert_eq!((number, numbers[1]), (0, 16));
-            (numbers, domains, pinned, pins, exrs_counts, exrs)
-        }
-    };
+    let by = |call: ReadCall| move || read_by(call, profile, include);
     race(name, by(tests::read_include), by(reference::read_include));
 }
 
@@ -123,7 +108,7 @@ fn write_by(
         &sequence.pinned,
         &sequence.pins,
         &sequence.exrs_counts,
-        &sequence.exrs,
+        &sequence.exrs[..sequence.exrs_size],
         out,
         &mut numbers,
     );
