@@ -1,4 +1,6 @@
 // A total as a float, the nearest one; and a total and the bound.
+#![tactic(auto)]
+
 ghost use Rattle.std.specs.Prelude.{◌≡◌, true};
 ghost use Rattle.model.specs.Floats.{in_range, float_of};
 ghost use Rattle.model.specs.Path.{keeps_bound};

@@ -1,4 +1,6 @@
 // Lent buffers: the capacity of several that belong together, and bytes or numbers put into one from a place on. What lies beside them stays.
+#![tactic(auto)]
+
 ghost use Rattle.std.specs.Prelude.{◌≡◌, min, ◌+◌, ◌≤◌, length, take};
 ghost use Rattle.std.proofs.Math.Seq.{paste};
 ghost use Rattle.model.specs.Lists.{over};

@@ -1,4 +1,6 @@
 // The library that a user links: the public calls under C names. Each returns document 01's number and stores the other numbers in `numbers`.
+#![tactic(auto)]
+
 ghost use Rattle.std.specs.Prelude.{◌≡◌, length};
 ghost use Rattle.model.specs.Calls.{check_profile, read_include, write_list, build_tree};
 ghost use Rattle.buffers.specs.Capacity.{least4};

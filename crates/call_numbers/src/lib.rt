@@ -1,4 +1,6 @@
 // The numbers of each answer: the answer's own is told, the place and what goes with it are stored in the order of the C interface.
+#![tactic(auto)]
+
 ghost use Rattle.std.specs.Prelude.{◌≡◌};
 ghost use Rattle.model.specs.Answers.{numbers_of_read, numbers_of_write, numbers_of_tree};
 ghost use Rattle.pcep_model.specs.Pcreq.{numbers_of_pcreq};

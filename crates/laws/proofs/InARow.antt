@@ -3,7 +3,7 @@
 use Prim.Native.Nat.{ℕ, zero, suc, ◌+◌, ◌≤◌, ◌<◌}
 use native.Mathlib.Nat.{add-zero}
 use native.Mathlib.Omega.{arith}
-use mathlib.Core.Path.{◌≡◌, refl, sym, ap, ap₂, ◌∙◌}
+use mathlib.Core.Path.{◌≡◌, refl, sym, ap, ap₂, subst₂, ◌∙◌}
 use mathlib.Core.Bool.{Bool, true, false}
 use mathlib.Core.List.{List, [], ◌∷◌, ◌++◌, map, append-nil, append_assoc}
 use lib.ListN.{length, get_or, take, drop, length-append}
@@ -75,7 +75,7 @@ module _ {A : Type 0} (bytes : A → List ℕ) where
   in_a_row pre [] = rw append-nil (omega arith)
   in_a_row pre (x ∷ xs) = (
     record { before = pre; after = each bytes xs; whole = refl; offset = refl },
-    rw (← append_assoc, ← length-append) (in_a_row (pre ++ bytes x) xs),
+    subst₂ (λ (s : List ℕ) (at : ℕ). Row s at xs) (append_assoc pre (bytes x) (each bytes xs)) (length-append pre (bytes x)) (in_a_row (pre ++ bytes x) xs),
   )
 
   module _ (s : List ℕ) (Right : A → Type 0) where

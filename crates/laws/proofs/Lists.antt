@@ -37,7 +37,7 @@ module _ {A : Type 0} where
       (λ (t : Memᴰ x (keep p ys)). let r = keep_mem p ys t in (mathlib.Core.List.Memᴰ.tail r.0, r.1))
       (keep_if_mem (p y) m)
 
-  pub mem_keep : (p : A → Bool) {xs : List A} {x : A} → Memᴰ x xs → p x ≡ true → Memᴰ x (keep p xs)
+  pub mem_keep : (p : A → Bool) {x : A} {xs : List A} → Memᴰ x xs → p x ≡ true → Memᴰ x (keep p xs)
   unfolding keep
   mem_keep p (mathlib.Core.List.Memᴰ.head {x = y} {xs = ys} e) t = keep_if_here (p y) (keep p ys) (subst (λ (z : A). p z ≡ true) e t) e
   mem_keep p (mathlib.Core.List.Memᴰ.tail {x = y} m) t = keep_if_later (p y) y (mem_keep p m t)
@@ -69,8 +69,9 @@ module _ {A : Type 0} where
 
   -- ---- all and any
 
-  pub all_mem : (p : A → Bool) {xs : List A} → all p xs ≡ true → {x : A} → Memᴰ x xs → p x ≡ true
+  pub all_mem : (p : A → Bool) {x : A} {xs : List A} → all p xs ≡ true → Memᴰ x xs → p x ≡ true
   unfolding all
+  all_mem p {xs = []} t m = elim m [ ]
   all_mem p {xs = y ∷ ys} t (mathlib.Core.List.Memᴰ.head e) = subst (λ (z : A). p z ≡ true) (sym e) (and_both (p y) (all p ys) t).0
   all_mem p {xs = y ∷ ys} t (mathlib.Core.List.Memᴰ.tail m) = all_mem p (and_both (p y) (all p ys) t).1 m
 
@@ -93,13 +94,15 @@ module _ {A : Type 0} where
       (λ e. let r = any_mem p xs e in (r.0, mathlib.Core.List.Memᴰ.tail r.1, r.2))
       (or_either (p x) (any p xs) t)
 
-  pub mem_any : (p : A → Bool) {xs : List A} {x : A} → Memᴰ x xs → p x ≡ true → any p xs ≡ true
+  pub mem_any : (p : A → Bool) {x : A} {xs : List A} → Memᴰ x xs → p x ≡ true → any p xs ≡ true
   unfolding any
+  mem_any p {xs = []} m t = elim m [ ]
   mem_any p {xs = y ∷ ys} (mathlib.Core.List.Memᴰ.head e) t = or_left (p y) (any p ys) (subst (λ (z : A). p z ≡ true) e t)
   mem_any p {xs = y ∷ ys} (mathlib.Core.List.Memᴰ.tail m) t = or_right (p y) (any p ys) (mem_any p m t)
 
-  pub any_false : (p : A → Bool) {xs : List A} → any p xs ≡ false → {x : A} → Memᴰ x xs → p x ≡ false
+  pub any_false : (p : A → Bool) {x : A} {xs : List A} → any p xs ≡ false → Memᴰ x xs → p x ≡ false
   unfolding any
+  any_false p {xs = []} t m = elim m [ ]
   any_false p {xs = y ∷ ys} t (mathlib.Core.List.Memᴰ.head e) = subst (λ (z : A). p z ≡ false) (sym e) (or_neither (p y) (any p ys) t).0
   any_false p {xs = y ∷ ys} t (mathlib.Core.List.Memᴰ.tail m) = any_false p (or_neither (p y) (any p ys) t).1 m
 
@@ -114,7 +117,7 @@ module _ {A B : Type 0} where
       (λ t. let r = map_mem f xs t in (r.0, mathlib.Core.List.Memᴰ.tail r.1, r.2))
       (mathlib.Core.List.Memᴰ.cases_cons m)
 
-  pub mem-map : (f : A → B) {xs : List A} {x : A} → Memᴰ x xs → Memᴰ (f x) (map f xs)
+  pub mem-map : (f : A → B) {x : A} {xs : List A} → Memᴰ x xs → Memᴰ (f x) (map f xs)
   mem-map f (mathlib.Core.List.Memᴰ.head e) = mathlib.Core.List.Memᴰ.head (ap f e)
   mem-map f (mathlib.Core.List.Memᴰ.tail m) = mathlib.Core.List.Memᴰ.tail (mem-map f m)
 
@@ -140,8 +143,9 @@ module _ {A B : Type 0} where
       (λ t. let r = each_mem f xs t in (r.0, mathlib.Core.List.Memᴰ.tail r.1, r.2))
       (mathlib.Core.List.Memᴰ.append_cases (f x) m)
 
-  pub mem_each : (f : A → List B) {xs : List A} {x : A} {y : B} → Memᴰ x xs → Memᴰ y (f x) → Memᴰ y (each f xs)
+  pub mem_each : (f : A → List B) {x : A} {xs : List A} {y : B} → Memᴰ x xs → Memᴰ y (f x) → Memᴰ y (each f xs)
   unfolding each
+  mem_each f {xs = []} m t = elim m [ ]
   mem_each f {xs = z ∷ zs} {y = y} (mathlib.Core.List.Memᴰ.head e) t = mathlib.Core.List.Memᴰ.append_left (each f zs) (subst (λ (w : A). Memᴰ y (f w)) e t)
   mem_each f {xs = z ∷ zs} (mathlib.Core.List.Memᴰ.tail m) t = mathlib.Core.List.Memᴰ.append_right (f z) (mem_each f m t)
 

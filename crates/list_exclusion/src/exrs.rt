@@ -12,7 +12,7 @@ use list_subobject::walk::next_after;
 use model::{Domain, NodeAddress, Round};
 
 // What is looked for among exclusions: one that takes a domain away in a round, one that takes a node away, or one that is only desired.
-#[derive(Drop)]
+#[derive(Clone, Copy)]
 pub enum Kind {
     TakesDomain,
     TakesNode,
@@ -20,7 +20,7 @@ pub enum Kind {
 }
 
 // With the round, and the domain or the node. (An enum can't hold a domain record, which has an array.)
-#[derive(Drop)]
+#[derive(Clone, Copy)]
 pub struct Sought {
     pub kind: Kind,
     pub round: Round,

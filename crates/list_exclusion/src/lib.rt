@@ -1,4 +1,6 @@
 // What an exclude list of right form takes away in a round: domains and nodes; and whether an exclusion of it is only desired (its X bit is set).
+#![tactic(auto)]
+
 ghost use Rattle.std.specs.Prelude.{◌≡◌, ◌&&◌, List, ℕ, ◌-◌, ◌≤◌};
 ghost use Rattle.model.specs.declared.Verdict.TheVariants.{Pass};
 ghost use Rattle.model.specs.declared.ListKind.TheVariants.{Exclude};

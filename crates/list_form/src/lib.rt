@@ -1,4 +1,6 @@
 // The form of a subobject, check by check in document 01's order, and the form of a whole list.
+#![tactic(auto)]
+
 ghost use Rattle.std.specs.Prelude.{◌≡◌, ◌≢◌, ℕ, ◌+◌, ◌%◌, ◌≤◌, ◌<◌, length, eqb, leb, not, ◌&&◌};
 ghost use Rattle.model.specs.declared.ListKind.TheVariants.{Include, Exclude};
 ghost use Rattle.model.specs.declared.Verdict.TheVariants.{Pass};

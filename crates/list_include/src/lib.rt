@@ -1,5 +1,7 @@
 // The meaning of an include list of right form on an accepted profile: its sequence of domains with their entry constraints and where their EXRS stand, or its
 // refusal (28 to 32, 42).
+#![tactic(auto)]
+
 ghost use Rattle.std.specs.Prelude.{◌≡◌, List, ℕ, ◌≤◌, ◌<◌, length};
 ghost use Rattle.model.specs.declared.ListKind.TheVariants.{Include};
 ghost use Rattle.model.specs.declared.Verdict.TheVariants.{Pass};

@@ -13,7 +13,7 @@ use profile_records::header::domain_count;
 use wire::u32_at;
 
 // None, one (by its index) or several.
-#[derive(Drop)]
+#[derive(Clone, Copy)]
 pub enum NamedDomain {
     Nothing,
     One { domain: DomainIndex },

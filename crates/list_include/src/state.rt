@@ -8,7 +8,7 @@ use crate::named_domains::NamedDomain;
 use model::{DomainIndex, NodeAddress, Refusal, Verdict};
 
 // What is told if nothing comes that what waits could wait for: the number of the first of it, and its offset.
-#[derive(Drop)]
+#[derive(Clone, Copy)]
 pub enum Waiting {
     Nothing,
     First { number: u32, offset: u32 },
@@ -17,7 +17,7 @@ pub enum Waiting {
 // The current AS; the domains so far (`count` of them) with their entry constraints, and where in the list the subobjects stand that named them: the EXRS of a domain
 // are those between the subobject that named the one before and its own; whether an entry constraint waits for the next new domain, and its node; and what is
 // told if something is left waiting.
-#[derive(Drop)]
+#[derive(Clone, Copy)]
 pub struct State {
     pub asn: u32,
     pub count: usize,
@@ -31,7 +31,7 @@ pub struct State {
 }
 
 // The state after a step, or that the step is refused, with a state of no domains.
-#[derive(Drop)]
+#[derive(Clone, Copy)]
 pub struct ReadStep {
     pub verdict: Verdict,
     pub state: State,

@@ -7,7 +7,7 @@ use model::NodeAddress;
 use wire::{u16_at, u32_at, wide};
 
 // What a subobject names. The bytes of an area, and those of a whole EXRS, are left where they stand: in the list, from `start` on.
-#[derive(Drop)]
+#[derive(Clone, Copy)]
 pub enum Named {
     Prefix {
         address: NodeAddress,
@@ -28,7 +28,7 @@ pub enum Named {
 }
 
 // A subobject: its offset, its top bit (L or X), what it names, and where the next one starts.
-#[derive(Drop)]
+#[derive(Clone, Copy)]
 pub struct Item {
     pub offset: usize,
     pub top: bool,

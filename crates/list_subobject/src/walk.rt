@@ -7,7 +7,7 @@ ghost use Rattle.list_subobject.specs.Items.{Readable, ItemAt};
 use crate::item::{Item, item_at, next_at};
 
 // The list, and the offset of a subobject in it.
-#[derive(Drop)]
+#[derive(Clone, Copy)]
 pub struct Walk<'a> {
     pub list: &'a [u8],
     pub at: usize,

@@ -17,8 +17,3 @@ pub mod Answers
 pub mod Rounds
 pub mod Calls
 pub mod Series
-pub mod WorkedFloats
-pub mod WorkedCases
-pub mod WorkedExrs
-pub mod WorkedNobodys
-pub mod WorkedWays

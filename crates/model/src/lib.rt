@@ -1,15 +1,16 @@
 // The public types of the calculator. What is right is said in specs/, over these types.
+#![tactic(auto)]
 
 // A domain's place among the profile's domain records, counted from 0.
-#[derive(Drop)]
+#[derive(Clone, Copy)]
 pub struct DomainIndex(pub u16);
 
 // A node's IPv4 address, as a number.
-#[derive(Drop)]
+#[derive(Clone, Copy)]
 pub struct NodeAddress(pub u32);
 
 // A domain record: its autonomous system number, and its area's kind (0 none, 1 OSPF, 2 IS-IS), length and bytes.
-#[derive(Drop)]
+#[derive(Clone, Copy)]
 pub struct Domain {
     pub asn: u32,
     pub kind: u8,
@@ -19,7 +20,7 @@ pub struct Domain {
 
 // A hop record: inside the domain `from` one comes from the node `tail` to the node `head`, which is an entry node of the
 // domain `to`, or an end point in `from` where the two are the same. (Document 01 calls them D, E, u and v.)
-#[derive(Drop)]
+#[derive(Clone, Copy)]
 pub struct Hop {
     pub from: DomainIndex,
     pub to: DomainIndex,
@@ -30,7 +31,7 @@ pub struct Hop {
 }
 
 // A request's bandwidth and cost bound. The bound counts only where `bounded` is true.
-#[derive(Drop)]
+#[derive(Clone, Copy)]
 pub struct Limits {
     pub bandwidth: f32,
     pub bound: f32,
@@ -38,21 +39,21 @@ pub struct Limits {
 }
 
 // Document 01's number of a refusal, and its place.
-#[derive(Drop)]
+#[derive(Clone, Copy)]
 pub struct Refusal {
     pub number: u32,
     pub place: u32,
 }
 
 // What a check says: the input passes it, or is refused.
-#[derive(Drop)]
+#[derive(Clone, Copy)]
 pub enum Verdict {
     Pass,
     Refuse(Refusal),
 }
 
 // Which of a request's two lists is read: an include list (IRO) or an exclude list (XRO).
-#[derive(Drop)]
+#[derive(Clone, Copy)]
 pub enum ListKind {
     Include,
     Exclude,
@@ -60,7 +61,7 @@ pub enum ListKind {
 
 // Which search for paths a call's answer comes from: the first, with every exclusion, or, where that finds no admissible path and some exclusion
 // is only desired (its X bit is set), the second, without those.
-#[derive(Drop)]
+#[derive(Clone, Copy)]
 pub enum Round {
     First,
     Second,
@@ -68,7 +69,7 @@ pub enum Round {
 
 // One entry of the tree: its place in the sequence of domains, the node, whether the destination can be reached from it,
 // and the least cost of doing so (0 where it can't).
-#[derive(Drop)]
+#[derive(Clone, Copy)]
 pub struct TreeEntry {
     pub level: u32,
     pub address: NodeAddress,
@@ -77,25 +78,25 @@ pub struct TreeEntry {
 }
 
 // The answers of the public calls. `numbers_of…` in specs/Answers.antt gives document 01's numbers for each case.
-#[derive(Drop)]
+#[derive(Clone, Copy)]
 pub enum ProfileAnswer {
     Accepted,
     Refused(Refusal),
 }
 
-#[derive(Drop)]
+#[derive(Clone, Copy)]
 pub enum ReadAnswer {
     Read { count: u32, exrs: u32 },
     Refused(Refusal),
 }
 
-#[derive(Drop)]
+#[derive(Clone, Copy)]
 pub enum WriteAnswer {
     Written { length: u32 },
     Refused(Refusal),
 }
 
-#[derive(Drop)]
+#[derive(Clone, Copy)]
 pub enum TreeAnswer {
     Built {
         entries: u32,
@@ -105,7 +106,7 @@ pub enum TreeAnswer {
     Refused(Refusal),
 }
 
-#[derive(Drop)]
+#[derive(Clone, Copy)]
 pub enum PathAnswer {
     // A path's total as a whole number and as the nearest float.
     Found {

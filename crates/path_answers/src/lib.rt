@@ -1,4 +1,6 @@
 // What a call for a path answers, by value: a refusal, no path, or a path with its total both ways and its round.
+#![tactic(auto)]
+
 ghost use Rattle.std.specs.Prelude.{◌≡◌, List, ℕ, suc, ◌≤◌, ◌<◌};
 ghost use Rattle.model.specs.Request.{Search};
 ghost use Rattle.model.specs.Path.{shortest_paths};
@@ -14,7 +16,7 @@ pub mod lent;
 pub mod numbers;
 
 // What a search finds, whatever the engine: the round that applies, and a path found in it, its total, and its addresses at the start of `path`.
-#[derive(Drop)]
+#[derive(Clone, Copy)]
 pub struct SearchResult {
     pub round: Round,
     pub found: bool,
@@ -48,7 +50,7 @@ pub fn found_in(round: Round, least: u32, addresses: [u32; 17]) -> SearchResult
 }
 
 // What a call for a path answers, and the path: the first `count` addresses of `path`.
-#[derive(Drop)]
+#[derive(Clone, Copy)]
 pub struct PathReply {
     pub answer: PathAnswer,
     pub count: usize,

@@ -1,4 +1,6 @@
 // The public calls first and next: the shortest paths of a request, one at a time, into a lent list of addresses.
+#![tactic(auto)]
+
 ghost use Rattle.std.specs.Prelude.{◌≡◌, ◌≤◌, length, take};
 ghost use Rattle.model.specs.Lists.{over};
 ghost use Rattle.model.specs.Answers.{numbers_of_path};

@@ -1,5 +1,7 @@
 // A path's addresses from a place of the sequence on, by recursion over the places: the first of the cheapest suffixes, and the first above a given list.
 // An address is written only on the way back from success, so that nothing found leaves the lent list as it was.
+#![tactic(auto)]
+
 ghost use Rattle.std.specs.Prelude.{◌≡◌, suc, ◌+◌, ◌<◌, length, drop};
 ghost use Rattle.model.specs.Request.{Search};
 ghost use Rattle.laws.specs.Descent.{next_after};

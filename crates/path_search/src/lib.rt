@@ -1,5 +1,7 @@
 // The first of the shortest paths above a given list of addresses, in the round that applies: the tree is worked out, the bound asked once, and the path
 // found by going down the tree.
+#![tactic(auto)]
+
 ghost use Rattle.std.specs.Prelude.{◌≡◌, suc, ◌≤◌, ◌<◌, length};
 ghost use Rattle.model.specs.Request.{Search};
 ghost use Rattle.laws.specs.Descent.{next_from};
@@ -20,7 +22,7 @@ use request::Query;
 use tree_rounds::{admissible, settle};
 
 // How a given list starts: before the source (or not at all), with it, or behind it.
-#[derive(Drop)]
+#[derive(Clone, Copy)]
 pub enum Start {
     Before,
     Same,

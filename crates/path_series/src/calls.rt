@@ -15,7 +15,7 @@ use path_calls::routes::{first_route, next_route};
 use request::Asked;
 
 // The path last handed out: the first `count` addresses of `path`; before any `count` is 0.
-#[derive(Drop)]
+#[derive(Clone, Copy)]
 struct LastPath {
     path: [u32; 17],
     count: usize,

@@ -1,4 +1,6 @@
 // A series of calls for first and next on one request, each next given a copy of the path last handed out.
+#![tactic(auto)]
+
 ghost use Rattle.request.specs.CheckedRequest.{request_for};
 ghost use Rattle.path_series.specs.Runs.{RunIs};
 
@@ -9,7 +11,7 @@ use request::Asked;
 pub mod calls;
 pub mod form;
 
-#[derive(Drop)]
+#[derive(Clone, Copy)]
 pub enum SeriesAnswer {
     Done,
     // The arguments don't fit together; nothing is written.

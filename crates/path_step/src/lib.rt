@@ -1,4 +1,6 @@
 // The hop record by which a shortest path goes on from an entry: the first, by ascending head, whose cost with what is left at its head is what is left here.
+#![tactic(auto)]
+
 ghost use Rattle.std.specs.Prelude.{◌≡◌, true, false, ◌≤◌, ◌<◌};
 ghost use Rattle.std.proofs.Math.Seq.{slice};
 ghost use Rattle.model.specs.Floats.{in_range};
@@ -19,7 +21,7 @@ use tree_reaches::{UNREACHABLE, reach_of};
 use tree_vspt::next_domain;
 
 // Which heads are wanted.
-#[derive(Drop)]
+#[derive(Clone, Copy)]
 pub enum Heads {
     Any,
     Only(NodeAddress),
@@ -27,7 +29,7 @@ pub enum Heads {
 }
 
 // The head of the hop record found, and what is left there.
-#[derive(Drop)]
+#[derive(Clone, Copy)]
 pub struct Onward {
     pub found: bool,
     pub head: NodeAddress,

@@ -1,4 +1,6 @@
 // The body of an ERO: one IPv4 subobject after the other, each of 8 bytes. Their form, how many there are, and their addresses.
+#![tactic(auto)]
+
 ghost use Rattle.std.specs.Prelude.{◌≡◌, ◌+◌, ◌≤◌, ◌<◌, length, true};
 ghost use Rattle.model.specs.declared.Verdict.TheVariants.{Pass};
 ghost use Rattle.model.specs.Lists.{over};

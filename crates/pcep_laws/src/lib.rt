@@ -1,1 +1,2 @@
 // What follows from the definitions of PCEP messages alone. No code: the laws stand in proofs/.
+#![tactic(auto)]

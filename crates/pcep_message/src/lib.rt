@@ -1,4 +1,6 @@
 // A whole message: the common header, 36, the objects in turn, then 39, 40 and 41.
+#![tactic(auto)]
+
 ghost use Rattle.std.specs.Prelude.{◌≡◌, false, ◌≤◌, length};
 ghost use Rattle.pcep_model.specs.Objects.{type_number, header_wrong};
 ghost use Rattle.pcep_message.specs.Framed.{missing_verdict, FrameIs};

@@ -87,7 +87,7 @@ fn size_wrong(class: u8, least: usize, n: usize, left: usize) -> bool
 }
 
 // What the check of an object says: refused, or its class, 0 where it isn't known, and where the next one starts.
-#[derive(Drop)]
+#[derive(Clone, Copy)]
 enum Object {
     Refused(Refusal),
     Passed { class: usize, next: usize },
@@ -135,7 +135,7 @@ fn object_at(kind: MessageKind, message: &[u8], at: usize) -> Object
 
 // What the checks of the objects in turn say, and where they pass the offset of the first one of each class that is known, 0 for none; 0 for all
 // where they refuse.
-#[derive(Drop)]
+#[derive(Clone, Copy)]
 pub struct Objects {
     pub verdict: Verdict,
     pub firsts: [u16; 18],

@@ -20,7 +20,7 @@ pub fn bits_at(message: &[u8], at: usize, behind: usize) -> u32
 }
 
 // What an RP holds: the flags that are assigned, and the request-ID.
-#[derive(Drop)]
+#[derive(Clone, Copy)]
 pub struct RpFields {
     pub flags: u32,
     pub id: u32,

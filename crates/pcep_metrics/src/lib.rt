@@ -1,4 +1,6 @@
 // The METRICs of a message whose objects are right: how many there are, the bound and the first out of range among them, and their fields in lent buffers.
+#![tactic(auto)]
+
 ghost use Rattle.std.specs.Prelude.{◌≡◌, map, ◌+◌, ◌≤◌, length};
 ghost use Rattle.model.specs.Lists.{over};
 ghost use Rattle.pcep_model.specs.Objects.{METRIC, is_object};
@@ -47,7 +49,7 @@ fn noted(hit: bool, known: usize, at: usize) -> usize
 }
 
 // How many METRICs a message has, and where the first with B set and the first out of range start, 0 for none.
-#[derive(Drop)]
+#[derive(Clone, Copy)]
 pub struct MetricScan {
     pub count: usize,
     pub bound: usize,

@@ -3,4 +3,3 @@ pub mod Objects
 pub mod Metrics
 pub mod Pcreq
 pub mod Pcrep
-pub mod WorkedMessages

@@ -1,15 +1,17 @@
 // The types of PCEP messages: which message is read, and the answers of the calls that read one. What is right is said in specs/.
+#![tactic(auto)]
+
 use model::{NodeAddress, Refusal};
 
 // Which message is read: a request to compute paths, or the reply to one.
-#[derive(Drop)]
+#[derive(Clone, Copy)]
 pub enum MessageKind {
     Pcreq,
     Pcrep,
 }
 
 // Where a list stands in a message: its first byte and its number of bytes, 0 and 0 for a list that isn't there.
-#[derive(Drop)]
+#[derive(Clone, Copy)]
 pub struct Extent {
     pub start: u32,
     pub size: u32,
@@ -17,7 +19,7 @@ pub struct Extent {
 
 // The fields of a PCReq but for its METRICs, of which it has the number: RP's request-ID and those of its flags that RFC 5440 assigns, both ends, the
 // bits of the bandwidth, and where the lists stand.
-#[derive(Drop)]
+#[derive(Clone, Copy)]
 pub struct PcreqFields {
     pub id: u32,
     pub flags: u32,
@@ -29,7 +31,7 @@ pub struct PcreqFields {
     pub exclude: Extent,
 }
 
-#[derive(Drop)]
+#[derive(Clone, Copy)]
 pub enum PcreqAnswer {
     Read(PcreqFields),
     Refused(Refusal),
@@ -37,7 +39,7 @@ pub enum PcreqAnswer {
 
 // The fields of a PCRep but for its addresses and METRICs, of which it has the numbers: RP's as above, whether there is a path, and a NO-PATH's
 // nature of issue and C.
-#[derive(Drop)]
+#[derive(Clone, Copy)]
 pub struct PcrepFields {
     pub id: u32,
     pub flags: u32,
@@ -48,7 +50,7 @@ pub struct PcrepFields {
     pub metrics: u32,
 }
 
-#[derive(Drop)]
+#[derive(Clone, Copy)]
 pub enum PcrepAnswer {
     Read(PcrepFields),
     Refused(Refusal),

@@ -29,7 +29,7 @@ fn route_at(ero: usize, no_path: usize) -> usize
 }
 
 // A NO-PATH's nature of issue, and C; 0 and false beside an ERO that counts.
-#[derive(Drop)]
+#[derive(Clone, Copy)]
 struct Issue {
     nature: u8,
     c: bool,
@@ -90,7 +90,7 @@ fn rest_verdict(body: &[u8], metrics: usize, address_room: usize, metric_room: u
 }
 
 // What the checks of a PCRep say: refused, or its fields and where its ERO's body stands.
-#[derive(Drop)]
+#[derive(Clone, Copy)]
 pub enum CheckedPcrep {
     Refused(Refusal),
     Passed { fields: PcrepFields, route: Extent },

@@ -1,4 +1,6 @@
 // The call that reads a PCRep: its fields, and addresses and METRICs into lent buffers.
+#![tactic(auto)]
+
 ghost use Rattle.pcep_reply_reader.specs.Reading.{ReadBy};
 
 use crate::fields::{CheckedPcrep, check};

@@ -1,4 +1,6 @@
 // `write_pcrep`: the PCRep for a path's addresses or for none, and METRICs.
+#![tactic(auto)]
+
 ghost use Rattle.std.specs.Prelude.{◌≡◌, min, length};
 ghost use Rattle.model.specs.Lists.{any};
 ghost use Rattle.buffers.specs.Placed.{Put};

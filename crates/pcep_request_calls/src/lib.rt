@@ -1,5 +1,7 @@
 // Tree, first and next through a PCReq, with the profile and the ingress domain beside it: 36 to 40, then what the call answers on the lists and
 // numbers that the message carries.
+#![tactic(auto)]
+
 ghost use Rattle.std.specs.Prelude.{length};
 ghost use Rattle.pcep_model.specs.Pcreq.{pcreq_tree, pcreq_first, pcreq_next};
 ghost use Rattle.buffers.specs.Capacity.{least4};

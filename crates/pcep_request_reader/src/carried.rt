@@ -10,7 +10,7 @@ use request::Asked;
 use request::limits::limits_of;
 
 // The ends, the ingress domain and the limits, and where the two lists stand in the message.
-#[derive(Drop)]
+#[derive(Clone, Copy)]
 pub struct CarriedRequest {
     pub asked: Asked,
     pub include: Extent,
@@ -18,7 +18,7 @@ pub struct CarriedRequest {
 }
 
 // A PCReq refused by the checks of its frame, or the request that it carries.
-#[derive(Drop)]
+#[derive(Clone, Copy)]
 pub enum Carried {
     Refused(Refusal),
     Request(CarriedRequest),

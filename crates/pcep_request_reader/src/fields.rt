@@ -41,7 +41,7 @@ fn fields_of(message: &[u8], firsts: [u16; 18], metrics: usize) -> PcreqFields
 }
 
 // The fields of a PCReq, whether a bound counts, its bits, and whether some METRIC is out of range.
-#[derive(Drop)]
+#[derive(Clone, Copy)]
 pub struct PcreqParts {
     pub fields: PcreqFields,
     pub bounded: bool,
@@ -50,7 +50,7 @@ pub struct PcreqParts {
 }
 
 // A PCReq refused by the checks of its frame, 36 to 40, or taken apart.
-#[derive(Drop)]
+#[derive(Clone, Copy)]
 pub enum ParsedPcreq {
     Refused(Refusal),
     Parsed(PcreqParts),

@@ -1,4 +1,6 @@
 // The call that reads a PCReq: the checks whose inputs it takes, the fields, and the METRICs into lent buffers.
+#![tactic(auto)]
+
 ghost use Rattle.std.specs.Prelude.{◌≡◌};
 ghost use Rattle.model.specs.Calls.{room_verdict};
 ghost use Rattle.pcep_model.specs.Pcreq.{floats_by};

@@ -1,4 +1,6 @@
 // What the calls answer as lines of text on standard output. No contract can say what is written: these functions are proved to be safe and to end, and a program over them is held to its stored output.
+#![tactic(auto)]
+
 use libc::STDOUT_FILENO;
 
 pub fn text(bytes: &[u8]) {

@@ -1,4 +1,6 @@
 // The check of a whole profile, numbers 10 to 19.
+#![tactic(auto)]
+
 ghost use Rattle.std.specs.Prelude.{◌≡◌};
 ghost use Rattle.model.specs.Answers.{numbers_of_profile};
 ghost use Rattle.model.specs.Calls.{check_profile};

@@ -1,4 +1,6 @@
 // Where the hop records of a pair of domains stand, and those of them that leave one node: found by halving, without a pass over all records.
+#![tactic(auto)]
+
 ghost use Rattle.std.specs.Prelude.{◌≡◌};
 ghost use Rattle.profile_records.specs.Layout.{layout_of, RightProfile};
 ghost use Rattle.profile_hop_range.specs.Ranges.{find_key, PairRange, TailRange};
@@ -11,7 +13,7 @@ use profile_records::layout::Layout;
 pub mod search;
 
 // Hop records from `first` up to, not including, `last`.
-#[derive(Drop)]
+#[derive(Clone, Copy)]
 pub struct HopRange {
     pub first: usize,
     pub last: usize,

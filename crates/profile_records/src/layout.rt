@@ -4,7 +4,7 @@ ghost use Rattle.std.specs.Prelude.{◌≡◌};
 ghost use Rattle.model.specs.Profile.{layout_in};
 ghost use Rattle.profile_records.specs.Layout.{layout_of};
 
-#[derive(Drop)]
+#[derive(Clone, Copy)]
 pub struct Layout {
     pub version: u16,
     pub hop_size: usize,

@@ -1,4 +1,6 @@
 // The reserved ranges of AS numbers (RFC 5398) and of addresses (RFC 5737), and what the two classes of profile ask; the AS numbers that are nobody's.
+#![tactic(auto)]
+
 ghost use Rattle.std.specs.Prelude.{◌≡◌, cond, not, ◌≤◌, eqb};
 ghost use Rattle.std.proofs.Math.Seq.{slice};
 ghost use Rattle.model.specs.Reserved.{as_ranges, address_ranges, in_ranges, misplaced, nobodys};
@@ -7,7 +9,7 @@ ghost use Rattle.profile_reserved.specs.Table.{reserved};
 use model::NodeAddress;
 
 // The first and the last number of a range.
-#[derive(Drop)]
+#[derive(Clone, Copy)]
 pub struct Range {
     pub first: u32,
     pub last: u32,

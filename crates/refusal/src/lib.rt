@@ -1,4 +1,6 @@
 // Refusals: one by its number and place, and the first of three that are tested for at one place.
+#![tactic(auto)]
+
 ghost use Rattle.std.specs.Prelude.{◌≡◌, true, ◌≤◌};
 ghost use Rattle.model.specs.Verdict.{refuse_if, ◌and_then◌};
 ghost use Rattle.refusal.specs.Refused.{refusal};

@@ -1,4 +1,6 @@
 // The checks of a whole request, in document 01's order, and what passes them.
+#![tactic(auto)]
+
 ghost use Rattle.std.specs.Prelude.{◌≡◌};
 ghost use Rattle.model.specs.declared.Verdict.TheVariants.{Pass};
 ghost use Rattle.model.specs.Request.{request_verdict};
@@ -14,7 +16,7 @@ pub mod floats;
 pub mod limits;
 
 // What is asked beside the profile and the lists: the domain that a path starts in, both its ends, and its limits.
-#[derive(Drop)]
+#[derive(Clone, Copy)]
 pub struct Asked {
     pub ingress: DomainIndex,
     pub source: NodeAddress,
@@ -25,7 +27,7 @@ pub struct Asked {
 // What a search needs of an accepted request beside the profile and the two lists: the sequence of `count` domains with their entry constraints and where in the
 // include list the subobjects stand that named them (the EXRS of a domain are those between the one that named the domain before and its own), where a path starts
 // and ends, the limits, and the round in which it is looked for.
-#[derive(Drop)]
+#[derive(Clone, Copy)]
 pub struct Query {
     pub count: usize,
     pub domains: [DomainIndex; 16],
@@ -39,7 +41,7 @@ pub struct Query {
 }
 
 // What the checks before 33 say, and where they pass what a search needs in the first round; where they refuse, a sequence of no domains.
-#[derive(Drop)]
+#[derive(Clone, Copy)]
 pub struct CheckedRequest {
     pub verdict: Verdict,
     pub query: Query,

@@ -1,4 +1,6 @@
 // The call `tree`: the backward tree of a request, its entries in what is lent. (Document 01, "Paths and the tree".)
+#![tactic(auto)]
+
 ghost use Rattle.std.specs.Prelude.{length};
 ghost use Rattle.model.specs.Calls.{build_tree};
 ghost use Rattle.request.specs.CheckedRequest.{request_of};

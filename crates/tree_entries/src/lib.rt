@@ -1,5 +1,7 @@
 // The backward tree in a lent slice of entries, filled from the numbers that were worked out. (Document 01: "in a lent list
 // of such records".) The function over the lent slice is proved by a walk of its MIR, by hand; what it calls is covered.
+#![tactic(auto)]
+
 ghost use Rattle.std.specs.Prelude.{◌≡◌, ◌<◌, ◌≤◌, length};
 ghost use Rattle.model.specs.Lists.{over};
 ghost use Rattle.tree_entries.specs.Entries.{entry_at, entries_of};

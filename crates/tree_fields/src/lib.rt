@@ -1,4 +1,6 @@
 // A request's tree in numbers: every check before 34, the tree worked out in the round that applies, and 34; and its fields in four lent buffers.
+#![tactic(auto)]
+
 ghost use Rattle.std.specs.Prelude.{◌≡◌, ◌≤◌, ltb, length};
 ghost use Rattle.model.specs.Profile.{layout_in};
 ghost use Rattle.model.specs.Calls.{build_tree};
@@ -18,7 +20,7 @@ use tree_rounds::settle;
 pub mod put;
 
 // A tree in numbers: the answer, how many entries are to be written and how many places they have; nothing on a refusal.
-#[derive(Drop)]
+#[derive(Clone, Copy)]
 pub struct TreeResult {
     pub answer: TreeAnswer,
     pub count: usize,

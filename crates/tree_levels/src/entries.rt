@@ -48,7 +48,7 @@ fn put_before(addresses: &mut [u32; 242], at: usize, end: usize, node: NodeAddre
 }
 
 // Where a part ends after a node was put in, and where the node stands.
-#[derive(Drop)]
+#[derive(Clone, Copy)]
 pub struct Inserted {
     pub end: usize,
     pub at: usize,

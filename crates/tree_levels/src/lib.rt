@@ -1,4 +1,6 @@
 // The entries of the tree, place by place of the sequence of domains, ascending; the hop records of each leg, and their number (document 01's tally).
+#![tactic(auto)]
+
 ghost use Rattle.std.specs.Prelude.{◌≡◌, ◌+◌, ◌-◌, ◌≤◌, ◌<◌, length, set};
 ghost use Rattle.model.specs.Request.{Search};
 ghost use Rattle.profile_records.specs.Layout.{layout_of, RightProfile};

@@ -1,25 +1,27 @@
 // Where an entry node stands in one domain's part of the tree, by halving: its addresses ascend, so the entry in the middle says on which side to go on.
+#![tactic(auto)]
+
 ghost use Rattle.std.specs.Prelude.{◌≡◌, suc, ◌<◌, length, get_or};
 ghost use Rattle.tree_lookup.specs.LookUp.{Part, Found};
 
 use model::NodeAddress;
 
 // Where an address stands.
-#[derive(Drop)]
+#[derive(Clone, Copy)]
 pub enum Place {
     At(usize),
     Nowhere,
 }
 
 // The answer, and how many entries were looked at for it.
-#[derive(Drop)]
+#[derive(Clone, Copy)]
 pub struct LookUp {
     pub place: Place,
     pub looks: u32,
 }
 
 // The address of the entry looked at, and the looks so far.
-#[derive(Drop)]
+#[derive(Clone, Copy)]
 struct Seen {
     pub address: u32,
     pub looks: u32,

@@ -1,5 +1,7 @@
 // How one entry reaches the destination, by the hop records that leave it and what is known of the next place's entries.
 // A reach is one number: the least cost, or `UNREACHABLE`.
+#![tactic(auto)]
+
 ghost use Rattle.std.specs.Prelude.{◌≡◌, true, ◌-◌, ◌≤◌, ◌<◌, length};
 ghost use Rattle.std.proofs.Math.Seq.{slice};
 ghost use Rattle.model.specs.Floats.{in_range};

@@ -1,5 +1,7 @@
 // The rounds of a query (RFC 5521's desired exclusions): the tree with every exclusion, and, where that has no admissible path and some exclusion
 // has X set, the tree with only those of X clear.
+#![tactic(auto)]
+
 ghost use Rattle.std.specs.Prelude.{◌≡◌, true, not, ◌&&◌, ◌≤◌, length};
 ghost use Rattle.model.specs.declared.ListKind.TheVariants.{Exclude};
 ghost use Rattle.model.specs.declared.Verdict.TheVariants.{Pass};
@@ -25,7 +27,7 @@ use tree_reaches::UNREACHABLE;
 use tree_vspt::fill_tree;
 
 // A query in the round that applies, and how many hop records were examined in all rounds (the tally).
-#[derive(Drop)]
+#[derive(Clone, Copy)]
 pub struct ChosenRound {
     pub query: Query,
     pub tally: usize,

@@ -1,5 +1,7 @@
 // One domain's step: the reaches of its entries, worked out from those of the next place. What is excluded stands in both lists of the request: the exclude list, and
 // the EXRS of the domain in the include list.
+#![tactic(auto)]
+
 ghost use Rattle.std.specs.Prelude.{◌≡◌, true, ◌≤◌, ◌-◌};
 ghost use Rattle.std.proofs.Math.Seq.{slice, paste};
 ghost use Rattle.model.specs.declared.ListKind.TheVariants.{Exclude};
@@ -23,7 +25,7 @@ use tree_reaches::{UNREACHABLE, best_from};
 
 // A leg of the sequence as a step needs it: its two domains and their hop records; the round, whether the first domain is excluded in it,
 // its entry constraint, and the stretch of the include list that has its EXRS; where its entries start, where those of the next place start, and where these end.
-#[derive(Drop)]
+#[derive(Clone, Copy)]
 pub struct Leg {
     pub from: DomainIndex,
     pub to: DomainIndex,

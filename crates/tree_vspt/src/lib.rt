@@ -1,4 +1,6 @@
 // The backward tree (RFC 5441's virtual shortest path tree): how each entry reaches the destination, from the last domain to the first.
+#![tactic(auto)]
+
 ghost use Rattle.std.specs.Prelude.{◌≡◌, not, List, ℕ, suc, ◌+◌, ◌<◌, ◌≤◌, length, get_or};
 ghost use Rattle.model.specs.declared.ListKind.TheVariants.{Exclude};
 ghost use Rattle.model.specs.declared.Verdict.TheVariants.{Pass};

@@ -1,4 +1,6 @@
 // Big-endian numbers read from a byte slice at a place, and written to one; parts of a slice compared by them.
+#![tactic(auto)]
+
 ghost use Rattle.std.specs.Prelude.{◌≡◌, ◌++◌, ◌+◌, ◌≤◌, ◌<◌, length, take, drop};
 ghost use Rattle.model.specs.Bytes.{number, bytes_of};
 

@@ -1,5 +1,7 @@
 // Prints what the calculator makes of document 01's profile W: the tree and the shortest paths of a request, then of one with a node excluded, of one whose exclusion of two
 // nodes is only desired, and of one that is refused. The file `stdout` in the folder above is taken from documents 01 and 02 by hand, not from a run.
+#![tactic(auto)]
+
 use crate::cases::{
     A_LONGER_PATH, BACK, DESIRED_WITHOUT_P_AND_Q, ONWARD, PROFILE_W, S, WITHOUT_Q, Z, asked, limits,
 };

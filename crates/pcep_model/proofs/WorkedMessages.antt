@@ -20,7 +20,7 @@ use Rattle.model.specs.Tree as Tree
 use Rattle.model.specs.Rounds.{round_of, search_of}
 use Rattle.model.specs.Answers.{Numbers}
 use Rattle.model.specs.Calls.{Outcome, build_tree, first, greater_than, next}
-use Rattle.model.specs.WorkedCases.{profile_w}
+use Rattle.model.proofs.WorkedCases.{profile_w}
 use Rattle.model.specs.Along.{checked_along, places_along, first_of}
 use Rattle.pcep_model.specs.Objects.{known_object, own_length, object_verdict, first_object, message_verdict}
 use Rattle.pcep_model.specs.Metrics.{Metric, metrics, wrong_metric, bound_metric}

@@ -22,7 +22,7 @@ use Rattle.model.specs.Exclusion.{in_force, excluded_domain, excluded_node}
 use Rattle.model.specs.Floats.{units, at_least}
 use Rattle.model.specs.Request.{Search}
 use Rattle.model.specs.Path.{Leg, legs, usable, leg_at, exclusions_at, Step, IsWay, IsPath, leads}
-use Rattle.model.specs.WorkedCases.{profile_w}
+use Rattle.model.proofs.WorkedCases.{profile_w}
 
 -- ---- W's search from S to Z in the first round: domain 2 with an entry constraint or none and some EXRS, exclusions for all places, and the bandwidth asked for
 
@@ -44,14 +44,15 @@ on_w pin exrs exclusions bits =
 
 -- ---- a step is made by a hop record that passes this test
 
-found : {A : Type 0} (p : A → Bool) {xs : List A} {x : A} → Memᴰ x xs → p x ≡ true → any p xs ≡ true
+found : {A : Type 0} (p : A → Bool) {x : A} {xs : List A} → Memᴰ x xs → p x ≡ true → any p xs ≡ true
 unfolding any
-found p {xs = y ∷ ys} {x = x} (Memᴰ.head e) t = left (p y) (any p ys) (subst (λ z. p z ≡ true) e t)
+found p {x = x} {xs = []} m t = elim m [ ]
+found p {x = x} {xs = y ∷ ys} (Memᴰ.head e) t = left (p y) (any p ys) (subst (λ z. p z ≡ true) e t)
   where
     left : (a b : Bool) → a ≡ true → (a || b) ≡ true
     left true b h = refl
     left false b h = absurd (false≢true h)
-found p {xs = y ∷ ys} (Memᴰ.tail m) t = right (p y) (any p ys) (found p m t)
+found p {x = x} {xs = y ∷ ys} (Memᴰ.tail m) t = right (p y) (any p ys) (found p m t)
   where
     right : (a b : Bool) → b ≡ true → (a || b) ≡ true
     right true b h = refl

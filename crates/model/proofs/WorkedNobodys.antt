@@ -21,8 +21,8 @@ use Rattle.model.specs.Tree as Tree
 use Rattle.model.specs.Rounds.{round_of, search_of}
 use Rattle.model.specs.Calls.{reading_of, all_exrs, read_include, write_list, build_tree, first, greater_than, next}
 use Rattle.model.specs.Series.{book, run}
-use Rattle.model.specs.WorkedCases.{profile_w, to_end, without, plain, on_w, Row, reading, writing, starting, stops_read, bytes_written, path, outcome, numbers, row}
-use Rattle.model.specs.WorkedExrs.{to64496, to64497, to64498, pin_u, area0, not_q, unread, unwritten}
+use Rattle.model.proofs.WorkedCases.{profile_w, to_end, without, plain, on_w, Row, reading, writing, starting, stops_read, bytes_written, path, outcome, numbers, row}
+use Rattle.model.proofs.WorkedExrs.{to64496, to64497, to64498, pin_u, area0, not_q, unread, unwritten}
 
 -- ---- a profile of class 1 with three domains of kind 0 and no hops, given by the bytes of each AS; W with another AS in its first, second or third record
 

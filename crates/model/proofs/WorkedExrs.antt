@@ -26,7 +26,7 @@ use Rattle.model.specs.Rounds.{round_of, search_of}
 use Rattle.model.specs.Answers.{Numbers}
 use Rattle.model.specs.Calls.{Outcome, path_length, reading_of, all_exrs, read_include, write_list, build_tree, first, greater_than, next}
 use Rattle.model.specs.Series.{Call, Reply, first_call, next_call, book, run}
-use Rattle.model.specs.WorkedCases.{profile_w, profile_ospf, S, P, Q, T, U, to_end, without, desired_without, plain, bounded, on_w, Case, Result, Row, reading, writing, building, starting, following, series, recorded, stops_read, bytes_written, entries_built, path, replies, outcome, numbers, through, at, cut, tree_w, calls, gives_in, gives, ends, none_there, SPUZ, SQTZ, SQUZ, row, book_of}
+use Rattle.model.proofs.WorkedCases.{profile_w, profile_ospf, S, P, Q, T, U, to_end, without, desired_without, plain, bounded, on_w, Case, Result, Row, reading, writing, building, starting, following, series, recorded, stops_read, bytes_written, entries_built, path, replies, outcome, numbers, through, at, cut, tree_w, calls, gives_in, gives, ends, none_there, SPUZ, SQTZ, SQUZ, row, book_of}
 
 -- ---- EXRS and other subobjects
 

@@ -1,0 +1,2 @@
+-- Messages worked out by hand, computed from the bytes up.
+pub mod WorkedMessages
