@@ -1,0 +1,15 @@
+-- `buffers::put_bytes` meets its contract. The loop's invariant: the first j bytes are copied. The measure is what is left.
+use Prim.Native.Nat.{◌≤◌, ◌-◌}
+use mathlib.Core.Path.{◌≡◌, refl}
+use native.Mathlib.Omega.{arith}
+use borrow.Author.Rules.{rules}
+use lib.ListN.{length, length-set}
+use lib.Seq.{paste, paste-zero}
+use Rattle.buffers.proofs.Places.{one_more, all_put}
+use Rattle.buffers.proofs.put_bytes.Given as goal
+
+abbrev pub invariant-loop-j : goal.invariant-loop-j
+invariant-loop-j l = (l.j ≤ l.n) × (l.out ≡ paste l.initial.out l.at l.bytes l.j) × (length l.out ≡ length l.initial.out)
+
+abbrev pub decreases-loop-j : goal.decreases-loop-j
+decreases-loop-j l = l.n - l.j
