@@ -37,8 +37,8 @@ use Rattle.list_subobject.specs.declared.walk.Walk.{Walk}
 use Rattle.list_subobject.proofs.WalkOwns.{D, L, mach}
 use Rattle.list_subobject.specs.contracts.walk.walk_from.Key.{name as #walk-from}
 use Rattle.list_subobject.specs.contracts.walk.walk_from as f
-use Rattle.list_subobject.proofs.walk.walk_from.Statement as stated
 use Rattle.list_subobject.proofs.walk.walk_from.Code as code
+use Rattle.list_subobject.proofs.walk.walk_from.Goals as goal
 
 abbrev stayed : Stays (f.ended).signature.params (f.ended).kept
 stayed = (stay_none_slice (0 ∷ []) tt (plain (λ _. u8)) yes, (stay_none (λ _. usize) yes, tt))
@@ -90,10 +90,3 @@ meets : {M : Type 1} {𝓤 : Ura M} (𝓛 : Logic 𝓤) → (mem : Memory → SP
 meets {𝓤 = 𝓤} 𝓛 mem run 𝓣 =
     walk_Meets 𝓛 f.ended stayed (Goes-none_slice 𝓛 1 (0 ∷ []) tt (plain (λ _. u8)) yes, (Goes-none 𝓛 1 (λ _. usize) yes (λ κs x f. refl), tt)) (f.clauses 𝓛 mem run)
     (WpFn 𝓤 𝓛.H 𝓣.C 𝓣.Λ code.function) (WpFn-mono 𝓤 𝓛.H 𝓛.laws 𝓣 code.function) (walks 𝓛 mem run 𝓣.C 𝓣.Λ)
-
-pub walk-from-spec : {M : Type 1} → stated.statement M
-unfolding code.routine tables_of
-walk-from-spec 𝓤 𝓛 𝓜 𝓡 =
-    entered 𝓤 𝓛.H (triple_of 𝓛 f.signature (f.spec 𝓛 𝓜.mem 𝓡.run))
-    (tables 𝓤 𝓛.H 𝓜 𝓡 code.env).C (tables 𝓤 𝓛.H 𝓜 𝓡 code.env).Λ #walk-from code.function (code.unfolded 𝓤 𝓛.H 𝓜 𝓡)
-    (meets 𝓛 𝓜.mem 𝓡.run (tables_of 𝓤 𝓛.H 𝓜 (tables 𝓤 𝓛.H 𝓜 𝓡 code.env)))

@@ -25,7 +25,6 @@ use denote.Plain.{uint_Lawful}
 use denote.Builtin.{usize}
 use denote.Steps.{only, peeks, heard, nothing}
 use denote.Struct.Laws as LL
-use denote.Triple.Statement.{Contract, Triple}
 use denote.Triple.Call.{calls_at}
 use denote.Triple.Entry.{Vals, on_entry}
 use denote.Triple.Spec.{Meets, triple_of}
@@ -44,8 +43,8 @@ use Rattle.list_subobject.proofs.item.next_at.Symbol.{name as #next-at}
 use Rattle.list_subobject.proofs.item.next_at.Met as g-thm
 use Rattle.list_subobject.specs.contracts.walk.moved_past.Key.{name as #moved-past}
 use Rattle.list_subobject.specs.contracts.walk.moved_past as f
-use Rattle.list_subobject.proofs.walk.moved_past.Statement as stated
 use Rattle.list_subobject.proofs.walk.moved_past.Code as code
+use Rattle.list_subobject.proofs.walk.moved_past.Goals as goal
 
 abbrev stayed : Stays (f.ended).signature.params (f.ended).kept
 stayed = (stay_none B yes, tt)
@@ -115,11 +114,3 @@ meets : {M : Type 1} {𝓤 : Ura M} (𝓛 : Logic 𝓤) (mem : Memory → SProp 
     → Meets 𝓛 f.signature (WpFn 𝓤 𝓛.H 𝓣.C 𝓣.Λ code.function) (f.spec 𝓛 mem run)
 meets {𝓤 = 𝓤} 𝓛 mem run 𝓣 known = walk_Meets 𝓛 f.ended stayed (Goes-none 𝓛 1 B yes (λ κs x f. refl), tt) (f.clauses 𝓛 mem run) (WpFn 𝓤 𝓛.H 𝓣.C 𝓣.Λ code.function) (WpFn-mono 𝓤 𝓛.H 𝓛.laws 𝓣 code.function)
     (walks 𝓛 mem run 𝓣.C 𝓣.Λ (fm_of 𝓤 𝓛.H 𝓛.laws 𝓣) known)
-
-pub moved-past-spec : {M : Type 1} → stated.statement M
-unfolding code.routine tables_of
-moved-past-spec 𝓤 𝓛 𝓜 𝓡 =
-    entered 𝓤 𝓛.H (triple_of 𝓛 f.signature (f.spec 𝓛 𝓜.mem 𝓡.run))
-    (tables 𝓤 𝓛.H 𝓜 𝓡 code.env).C (tables 𝓤 𝓛.H 𝓜 𝓡 code.env).Λ #moved-past code.function (code.unfolded 𝓤 𝓛.H 𝓜 𝓡)
-    (meets 𝓛 𝓜.mem 𝓡.run (tables_of 𝓤 𝓛.H 𝓜 (tables 𝓤 𝓛.H 𝓜 𝓡 code.env))
-    (cited 𝓤 𝓛.H (Called 𝓛 𝓜.mem 𝓡.run) 𝓜 𝓡 code.env #next-at g-def.routine code.calls-list-subobject::item::next-at (g-thm.met 𝓤 𝓛 𝓜 𝓡)))

@@ -25,7 +25,6 @@ use denote.Signature.{plain}
 use denote.Slice.{ShrSlice, shr_slice_vals, shr_slice_Tells, shr_slice_Lawful}
 use denote.Steps.{peeks, heard, nothing, owned}
 use denote.Struct.Laws as LL
-use denote.Triple.Statement.{Triple}
 use denote.Triple.Call.{calls_at}
 use denote.Triple.Entry.{on_entry}
 use denote.Triple.Spec.{Meets, triple_of}
@@ -51,8 +50,8 @@ use Rattle.list_subobject.proofs.walk.subobject_here.Symbol.{name as #subobject-
 use Rattle.list_subobject.proofs.walk.subobject_here.Met as here-thm
 use Rattle.list_subobject.specs.contracts.walk.subobject_at.Key.{name as #subobject-at}
 use Rattle.list_subobject.specs.contracts.walk.subobject_at as f
-use Rattle.list_subobject.proofs.walk.subobject_at.Statement as stated
 use Rattle.list_subobject.proofs.walk.subobject_at.Code as code
+use Rattle.list_subobject.proofs.walk.subobject_at.Goals as goal
 
 abbrev stayed : Stays (f.ended).signature.params (f.ended).kept
 stayed = (stay_none_slice (0 ∷ []) tt (plain (λ _. u8)) yes, (stay_none (λ _. usize) yes, tt))
@@ -111,12 +110,3 @@ meets : {M : Type 1} {𝓤 : Ura M} (𝓛 : Logic 𝓤) (mem : Memory → SProp 
 meets {𝓤 = 𝓤} 𝓛 mem run 𝓣 known-made known-here =
     walk_Meets 𝓛 f.ended stayed (Goes-none_slice 𝓛 1 (0 ∷ []) tt (plain (λ _. u8)) yes, (Goes-none 𝓛 1 (λ _. usize) yes (λ κs x f. refl), tt)) (f.clauses 𝓛 mem run)
     (WpFn 𝓤 𝓛.H 𝓣.C 𝓣.Λ code.function) (WpFn-mono 𝓤 𝓛.H 𝓛.laws 𝓣 code.function) (walks 𝓛 mem run 𝓣.C 𝓣.Λ (fm_of 𝓤 𝓛.H 𝓛.laws 𝓣) known-made known-here)
-
-pub subobject-at-spec : {M : Type 1} → stated.statement M
-unfolding code.routine tables_of
-subobject-at-spec 𝓤 𝓛 𝓜 𝓡 =
-    entered 𝓤 𝓛.H (triple_of 𝓛 f.signature (f.spec 𝓛 𝓜.mem 𝓡.run))
-    (tables 𝓤 𝓛.H 𝓜 𝓡 code.env).C (tables 𝓤 𝓛.H 𝓜 𝓡 code.env).Λ #subobject-at code.function (code.unfolded 𝓤 𝓛.H 𝓜 𝓡)
-    (meets 𝓛 𝓜.mem 𝓡.run (tables_of 𝓤 𝓛.H 𝓜 (tables 𝓤 𝓛.H 𝓜 𝓡 code.env))
-    (cited 𝓤 𝓛.H (Made 𝓛 𝓜.mem 𝓡.run) 𝓜 𝓡 code.env #walk-from made-def.routine code.calls-list-subobject::walk::walk-from (made-thm.met 𝓤 𝓛 𝓜 𝓡))
-    (cited 𝓤 𝓛.H (Here 𝓛 𝓜.mem 𝓡.run) 𝓜 𝓡 code.env #subobject-here here-def.routine code.calls-list-subobject::walk::subobject-here (here-thm.met 𝓤 𝓛 𝓜 𝓡)))

@@ -1,0 +1,13 @@
+-- `tree_lookup::find_entry` meets its contract. The loop's invariant: `Narrowed`, what is known after the looks so far. The measure is what is left of the part.
+use Prim.Native.Nat.{◌-◌}
+use mathlib.Core.Path.{sym, ◌∙◌}
+use native.Mathlib.Omega.{arith}
+use borrow.Author.Rules.{rules}
+use Rattle.tree_lookup.proofs.Narrowed.{Narrowed, Turn, narrowed_start, narrowed_end, turn}
+use Rattle.tree_lookup.proofs.find_entry.Given as goal
+
+abbrev pub invariant-loop-low : goal.invariant-loop-low
+invariant-loop-low l = Narrowed l.addresses l.at l.count l.v l.low l.high l.looks
+
+abbrev pub decreases-loop-low : goal.decreases-loop-low
+decreases-loop-low l = l.high - l.low
