@@ -1,0 +1,14 @@
+-- `profile_record_checks::run::goes_on` meets its contract: the words read are those of the record, and the tests, all true, say that it goes on.
+use borrow.Author.Rules.{rules}
+use Rattle.profile_record_checks.proofs.Runs.{all_tested}
+use Rattle.profile_records.specs.Layout.{layout_of}
+use Rattle.profile_record_checks.proofs.run.goes_on.Goals as goal
+
+pub returns : goal.returns
+returns c =
+    let reads = c in
+    let a = c.args in
+    all_tested (layout_of a.layout) a.s.now a.at a.class a.pair a.tail a.before _ _ _ _ _ _ _
+    c.u32_at-here.ensures c.u32_at-node.ensures
+    c.u32_at-head.ensures c.u32_at-cost.ensures c.u32_at-other.ensures
+    c.u32_at-bits.ensures c.address_misplaced-misplaced.ensures
