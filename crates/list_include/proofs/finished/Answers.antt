@@ -1,17 +1,14 @@
 -- `list_include::finished` meets its contract: what is told of what waits is told of the first of it, as `finish` does.
 use mathlib.Core.Path.{◌≡◌, refl, sym, ap, ◌∙◌}
 use mathlib.Core.List.{List, [], ◌∷◌}
-use mathlib.Core.Option.{Option, none, some}
+use mathlib.Core.Option.{none, some}
 use Prim.Native.Nat.{ℕ}
 use native.Mathlib.Omega.{arith}
 use Rattle.model.specs.declared.Refusal.{Refusal}
 use Rattle.model.specs.Sequence as M
-use Rattle.list_include.specs.declared.state.Waiting.{Waiting}
 use Rattle.list_include.specs.Reading.{left_as, left_by, Placed, state_stops, state_of, state_waits}
 use Rattle.list_include.proofs.States.{step-passed, step-refused}
-use borrow.Author.Rules.{rules}
-use Rattle.list_include.proofs.finished.Statement.{statement}
-use Rattle.list_include.proofs.finished.Tie as tie
+use Rattle.list_include.proofs.finished.Goals as goal
 
 nothing_left : (st : M.State) (w : List M.Waiting) → none ≡ left_by w → M.finish st w ≡ M.good st.sequence
 nothing_left st [] e = refl
@@ -21,28 +18,16 @@ something-left : (st : M.State) (w : List M.Waiting) (r : Refusal) → some r �
 something-left st [] r e = let z : ◌≡◌ {A = ℕ} 0 1 = cc in absurd (omega arith)
 something-left st (x ∷ w) r e = let same : r ≡ record { number = M.left_over x.what; place = x.offset } = cc in ap M.refused (sym same)
 
-enum_told : tie.Need-enum-told
-enum_told c = search rules
-
-enum-known-waiting : tie.Need-enum-known-waiting
-enum-known-waiting c = search rules
-
-returns : tie.Need-returns
-returns c =
-    let a = c.before.before.args in
+pub returns-in-Nothing : goal.returns-in-Nothing
+returns-in-Nothing c =
+    let a = c.args in
     λ list at standing.
-    step-passed (Placed list) (state_stops list) a.st _ c.before.before.requires standing.placed
-    (nothing_left (state_of list at a.st) (state_waits list at a.st) (sym (ap left_as c.enum_told.given.1) ∙ standing.left_is))
+    step-passed (Placed list) (state_stops list) a.st _ c.requires standing.placed
+    (nothing_left (state_of list at a.st) (state_waits list at a.st) (sym (ap left_as c.in-Nothing.is) ∙ standing.left_is))
 
-refused-requires : tie.Need-refused-requires
-refused-requires c κs = search rules
-
-returns-2 : tie.Need-returns-2
-returns-2 c =
-    let a = c.before.before.before.before.args in
+pub returns-in-First : goal.returns-in-First
+returns-in-First c =
+    let a = c.args in
     λ list at standing.
     step-refused (Placed list) (state_stops list) _ _ _ c.refused.ensures
-    (something-left (state_of list at a.st) (state_waits list at a.st) _ (sym (ap left_as c.before.before.waiting.given.1) ∙ standing.left_is))
-
-pub finished-spec : {M : Type 1} → statement M
-finished-spec = tie.close (tie.spec enum_told enum-known-waiting refused-requires returns returns-2)
+    (something-left (state_of list at a.st) (state_waits list at a.st) _ (sym (ap left_as c.in-First.is) ∙ standing.left_is))
