@@ -65,3 +65,7 @@ domain_barred x d s = sym (any-keep (λ (o : M.Subobject). takes_domain d o.name
 pub node_barred : (x : Round) (node : ℕ) (s : List ℕ) → some_named (bars_node x node) s ≡ excluded_node (in_force x (M.subobjects s)) node
 unfolding excluded_node in_force M.subobjects
 node_barred x node s = sym (any-keep (λ (o : M.Subobject). takes_node node o.names) (λ (o : M.Subobject). counts x o.top) (M.subobjects s))
+
+-- an exclusion is only desired
+abbrev pub is_desired : Bool → M.Named → Bool
+is_desired top n = top

@@ -1,10 +1,9 @@
 -- One pass over the subobjects of a list of right form, of either kind, from an offset up to an end, for one that passes a test: the subobject at hand decides, or
 -- what is left after it does.
 use Prim.Native.Nat.{ℕ, ◌≤◌, ◌<◌}
-use mathlib.Core.Path.{◌≡◌, refl, sym, ap, ◌∙◌}
+use mathlib.Core.Path.{◌≡◌, refl, sym, ◌∙◌}
 use mathlib.Core.Bool.{Bool, true, false}
 use mathlib.Core.List.{List}
-use native.Mathlib.Omega.{arith}
 use lib.ListN.{length}
 use Rattle.model.specs.declared.ListKind.{ListKind}
 use Rattle.model.specs.declared.Verdict.TheVariants.{Pass}

@@ -2,13 +2,12 @@
 -- together.
 use Prim.Native.Nat.{ℕ, ◌+◌, ◌-◌}
 use mathlib.Core.Path.{◌≡◌, refl, sym, ap, ◌∙◌}
-use mathlib.Core.Bool.{Bool, true, false, ◌&&◌, ◌||◌}
+use mathlib.Core.Bool.{Bool, false, ◌&&◌, ◌||◌}
 use mathlib.Core.List.{List, [], ◌∷◌}
-use lib.Dec.{eqb}
 use borrow.Author.Tests.{ne_eqb}
 use Rattle.model.specs.declared.Domain.{Domain}
 use Rattle.model.specs.declared.Round.{Round}
-use Rattle.model.specs.Lists.{any, each, keep}
+use Rattle.model.specs.Lists.{any, each}
 use Rattle.model.specs.Bytes.{part}
 use Rattle.model.specs.Subobject.{Subobject, type_at, length_at, Named, named_at, subobjects_from, subobjects, inside_of}
 use Rattle.model.specs.Exclusion.{counts, in_force, some_desired, takes_domain, takes_node, excluded_domain, excluded_node}
@@ -20,7 +19,6 @@ use Rattle.list_exclusion.specs.declared.exrs.Kind.{Kind}
 use Rattle.list_exclusion.specs.declared.exrs.Kind.TheVariants.{TakesDomain, TakesNode, Desired}
 use Rattle.list_exclusion.specs.declared.exrs.Sought.{Sought}
 use Rattle.list_exclusion.specs.Sought.{found_by, found_in}
-use Rattle.list_exclusion.proofs.OnePass.{some_there}
 
 any_each : {A B : Type 0} (p : B → Bool) (f : A → List B) (xs : List A) → any p (each f xs) ≡ any (λ (x : A). any p (f x)) xs
 unfolding any each

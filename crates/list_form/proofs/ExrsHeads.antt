@@ -1,6 +1,6 @@
 -- The head of an EXRS: what `head_wrong` makes of type 33, by the list's kind, L and the length. By putting the type into the definition.
-use mathlib.Core.Path.{◌≡◌, refl, sym, ◌∙◌}
-use mathlib.Core.Bool.{true, false, not, or-false}
+use mathlib.Core.Path.{◌≡◌, refl, ◌∙◌}
+use mathlib.Core.Bool.{or-false}
 use Prim.Native.Nat.{ℕ, ◌+◌, ◌*◌, ◌%◌, ◌≤◌, ◌<◌}
 use native.Mathlib.Nat.{zero-mul}
 use lib.Dec.{leb}

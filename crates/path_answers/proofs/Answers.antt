@@ -88,7 +88,7 @@ found-by number S given count count' room sought x p long few fits is float righ
           (λ j. done4 sought.total (to_bits binary32 (float j)) sought.round)
           ∙ (λ j. done4 (sym p.total-is j) (to_bits binary32 (float_of (sym p.total-is j))) sought.round)
           ∙ sym (ap (λ (y : Outcome ℕ). y.numbers) o);
-      written_is = ap (λ (n : ℕ). take n sought.path) is ∙ sym p.addresses-are ∙ sym (ap (λ (y : Outcome ℕ). y.written) o);
+      written_is = ap (λ (n : ℕ). take n sought.path) is ∙ sym p.addresses_are ∙ sym (ap (λ (y : Outcome ℕ). y.written) o);
       cells_are = p.cells_are ∙ sym (ap (λ (y : Outcome ℕ). over y.written (replicate 17 0)) o);
       few = omega arith;
       fits = omega arith;

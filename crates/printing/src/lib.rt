@@ -1,85 +1,92 @@
-// What the calls answer as lines of text on standard output. No contract can say what is written: these functions are proved to be safe and to end, and a program over them is held to its stored output.
+// What the calls answer as lines of text on standard output. No contract can say what is written: these functions are proved to be safe and to end, and a program over them is held to its stored output. Each gives the error of a write that failed, and writes nothing after it.
 #![tactic(auto)]
 
-use libc::STDOUT_FILENO;
+use std::io;
 
-pub fn text(bytes: &[u8]) {
-    io::write_all(STDOUT_FILENO, bytes);
+pub fn text(rt: &impl Print, bytes: &[u8]) -> io::Result<()> {
+    rt.write_all(bytes)
 }
 
-fn number(before: &[u8], n: u32) {
-    text(before);
-    io::print_decimal(STDOUT_FILENO, n as u64);
+fn number(rt: &impl Print, before: &[u8], n: u32) -> io::Result<()> {
+    text(rt, before)?;
+    print!(rt; "{n}")
 }
 
 // An IPv4 address in dotted form.
-fn address(before: &[u8], a: u32) {
-    number(before, a >> 24);
-    number(b".", a >> 16 & 255);
-    number(b".", a >> 8 & 255);
-    number(b".", a & 255);
+fn address(rt: &impl Print, before: &[u8], a: u32) -> io::Result<()> {
+    number(rt, before, a >> 24)?;
+    number(rt, b".", a >> 16 & 255)?;
+    number(rt, b".", a >> 8 & 255)?;
+    number(rt, b".", a & 255)
 }
 
 // How many entries a tree has, how many hops were examined for it, and in which round it was built.
-pub fn print_tally(entries: u32, tally: u32, round: u32) {
-    number(b"tree: ", entries);
-    number(b" entries, ", tally);
-    number(b" hops examined, round ", round);
-    text(b"\n");
+pub fn print_tally(rt: &impl Print, entries: u32, tally: u32, round: u32) -> io::Result<()> {
+    println!(rt; "tree: {entries} entries, {tally} hops examined, round {round}")
 }
 
 // One entry of a tree.
-pub fn print_entry(level: u32, node: u32, reachable: bool, cost: u32) {
-    number(b"  level ", level);
-    address(b": ", node);
+pub fn print_entry(
+    rt: &impl Print,
+    level: u32,
+    node: u32,
+    reachable: bool,
+    cost: u32,
+) -> io::Result<()> {
+    number(rt, b"  level ", level)?;
+    address(rt, b": ", node)?;
     if reachable {
-        number(b", reachable, cost ", cost);
-        text(b"\n");
+        println!(rt; ", reachable, cost {cost}")
     } else {
-        text(b", not reachable\n");
+        println!(rt; ", not reachable")
     }
 }
 
 // What a call that is refused answers.
-pub fn print_refusal(call: &[u8], refusal: u32, place: u32) {
-    text(call);
-    number(b": refused, number ", refusal);
-    number(b", place ", place);
-    text(b"\n");
+pub fn print_refusal(rt: &impl Print, call: &[u8], refusal: u32, place: u32) -> io::Result<()> {
+    text(rt, call)?;
+    println!(rt; ": refused, number {refusal}, place {place}")
 }
 
 // Addresses from a source to a destination.
-pub fn print_path(before: &[u8], path: [u32; 4]) {
-    address(before, path[0]);
-    address(b" ", path[1]);
-    address(b" ", path[2]);
-    address(b" ", path[3]);
+pub fn print_path(rt: &impl Print, before: &[u8], path: [u32; 4]) -> io::Result<()> {
+    address(rt, before, path[0])?;
+    address(rt, b" ", path[1])?;
+    address(rt, b" ", path[2])?;
+    address(rt, b" ", path[3])
 }
 
-fn print_found(path: [u32; 4], total: u32, float: u32, round: u32) {
-    print_path(b": ", path);
-    number(b", total ", total);
-    text(b" (");
-    io::print_hex(STDOUT_FILENO, float as u64, 8);
-    number(b"), round ", round);
-    text(b"\n");
+fn print_found(
+    rt: &impl Print,
+    path: [u32; 4],
+    total: u32,
+    float: u32,
+    round: u32,
+) -> io::Result<()> {
+    print_path(rt, b": ", path)?;
+    println!(rt; ", total {total} ({float:08x}), round {round}")
 }
 
 // What a call for a path answers: its five numbers, and the path where there is one. Whether there is one.
-pub fn print_answer(call: &[u8], numbers: [u32; 5], path: [u32; 4]) -> bool {
+pub fn print_answer(
+    rt: &impl Print,
+    call: &[u8],
+    numbers: [u32; 5],
+    path: [u32; 4],
+) -> io::Result<bool> {
     if numbers[0] >= 10 {
-        print_refusal(call, numbers[0], numbers[1]);
-        return false;
+        print_refusal(rt, call, numbers[0], numbers[1])?;
+        return Ok(false);
     }
-    text(call);
+    text(rt, call)?;
     if numbers[0] == 0 {
-        print_found(path, numbers[2], numbers[3], numbers[4]);
-        return true;
+        print_found(rt, path, numbers[2], numbers[3], numbers[4])?;
+        return Ok(true);
     }
     if numbers[0] == 1 {
-        text(b": no path\n");
+        println!(rt; ": no path")?;
     } else {
-        text(b": end\n");
+        println!(rt; ": end")?;
     }
-    false
+    Ok(false)
 }

@@ -5,10 +5,10 @@ use Prim.Native.Nat.{ℕ, suc, ◌<◌, ◌≤◌}
 use native.Mathlib.Nat.{zero-add}
 use native.Mathlib.Omega.{arith}
 use lib.ListN.{length, take, set}
-use lib.Seq.{take_all, length-take-le}
+use lib.Seq.{take_all}
 use Rattle.model.specs.declared.TreeEntry.{TreeEntry}
 use Rattle.model.specs.Lists.{over}
-use Rattle.laws.proofs.Lists.{over-length, Copied-next}
+use Rattle.laws.proofs.Lists.{Copied-next}
 use Rattle.laws.proofs.ProfileLists.{length-map-count_from, get_or-map-count_from}
 use Rattle.tree_entries.specs.Entries.{entry_at, entries_of}
 
@@ -23,11 +23,6 @@ module _ (n : ℕ) (levels addresses codes : List ℕ) where
   -- the list after i entries are written
   abbrev pub after : List TreeEntry → ℕ → List TreeEntry
   after old i = over (take i entries) old
-
-  pub length-after : (old : List TreeEntry) (i : ℕ) → i ≤ n → n ≤ length old → length (after old i) ≡ length old
-  length-after old i h k =
-      let long : length (take i entries) ≡ i = length-take-le i entries (omega (arith, length-entries)) in
-      over-length (take i entries) old (omega arith)
 
   pub after_next : (old : List TreeEntry) (i : ℕ) → i < n → n ≤ length old → set (after old i) i (entry_at levels addresses codes i) ≡ after old (suc i)
   unfolding entries_of

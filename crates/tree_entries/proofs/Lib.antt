@@ -1,3 +1,1 @@
 pub mod Filled
-pub mod Steps
-pub mod FillCall

@@ -1,5 +1,5 @@
 // The backward tree in a lent slice of entries, filled from the numbers that were worked out. (Document 01: "in a lent list
-// of such records".) The function over the lent slice is proved by a walk of its MIR, by hand; what it calls is covered.
+// of such records".)
 #![tactic(auto)]
 
 ghost use Rattle.std.specs.Prelude.{◌≡◌, ◌<◌, ◌≤◌, length};
@@ -10,7 +10,7 @@ use model::{NodeAddress, TreeEntry};
 use tree_reaches::UNREACHABLE;
 
 // A tree as it is worked out, its entries' numbers in their order: level, address, and how the destination is reached in one number.
-#[derive(Drop)]
+#[derive(Clone, Copy, Drop)]
 pub struct TreeTable {
     pub level: [u32; 241],
     pub addresses: [u32; 242],

@@ -2,9 +2,9 @@
 use model::{DomainIndex, Limits, NodeAddress};
 use request::Asked;
 
-pub const S: u32 = 0x_c0000201;
+pub const S: u32 = 0xC0000201;
 
-pub const Z: u32 = 0x_c0000263;
+pub const Z: u32 = 0xC0000263;
 
 // A header, three domains and eight hops, one to a line: 64496, 64497, 64498; SP 10, SQ 3; PT 3, PU 1, QT 9, QU 8; TZ 2, UZ 3. The bandwidth is 1000, but 100 on QU.
 pub const PROFILE_W: [u8; 232] = *b"DSP\x00\x01\x00\x00\x03\x00\x08\x00\x00\
@@ -34,7 +34,7 @@ pub const DESIRED_WITHOUT_P_AND_Q: [u8; 16] =
     *b"\x81\x08\xc0\x00\x02\x0b\x20\x01\x81\x08\xc0\x00\x02\x0c\x20\x01";
 
 // S, P, T, Z: a path, but not one of the shortest.
-pub const A_LONGER_PATH: [u32; 4] = [S, 0x_c000020_b, 0x_c0000215, Z];
+pub const A_LONGER_PATH: [u32; 4] = [S, 0xC000020B, 0xC0000215, Z];
 
 // Bandwidth 100, no bound.
 pub fn limits() -> Limits {

@@ -10,24 +10,26 @@ use model::{DomainIndex, NodeAddress, TreeAnswer, TreeEntry};
 use path_answers::numbers::{five_of, round_number};
 use path_calls::{first, next};
 use printing::{print_answer, print_entry, print_path, print_refusal, print_tally, text};
+use std::io;
 
 mod cases;
 mod lent;
 
 // The first `count` of the entries that were lent.
-fn print_entries(entries: [TreeEntry; 5], count: u32) {
+fn print_entries(rt: &impl Print, entries: [TreeEntry; 5], count: u32) -> io::Result<()> {
     let mut i = 0;
     let mut left = count;
     while i < 5 && left > 0 {
         let e = entries[i];
-        print_entry(e.level, e.address.0, e.reachable, e.cost);
+        print_entry(rt, e.level, e.address.0, e.reachable, e.cost)?;
         i += 1;
         left -= 1;
     }
+    Ok(())
 }
 
 // The tree. On this profile it has at most five entries: S, P, Q, T and U.
-fn show_tree(profile: &[u8], include: &[u8], exclude: &[u8]) {
+fn show_tree(rt: &impl Print, profile: &[u8], include: &[u8], exclude: &[u8]) -> io::Result<()> {
     let lent = lent_tree(
         profile,
         DomainIndex(0),
@@ -51,88 +53,110 @@ fn show_tree(profile: &[u8], include: &[u8], exclude: &[u8]) {
             tally,
             round,
         } => {
-            print_tally(count, tally, round_number(round));
-            print_entries(entries, count);
+            print_tally(rt, count, tally, round_number(round))?;
+            print_entries(rt, entries, count)
         }
-        TreeAnswer::Refused(r) => {
-            print_refusal(b"tree", r.number, r.place);
-        }
+        TreeAnswer::Refused(r) => print_refusal(rt, b"tree", r.number, r.place),
     }
 }
 
 // The first path, into `path`; whether there is one.
-fn show_first(profile: &[u8], include: &[u8], exclude: &[u8], path: &mut [u32; 4]) -> bool {
+fn show_first(
+    rt: &impl Print,
+    profile: &[u8],
+    include: &[u8],
+    exclude: &[u8],
+    path: &mut [u32; 4],
+) -> io::Result<bool> {
     let answer = first(profile, asked(), include, exclude, path);
-    print_answer(b"first", five_of(answer), *path)
+    print_answer(rt, b"first", five_of(answer), *path)
 }
 
 // The path after a given list, into `path`; whether there is one.
 fn show_next(
+    rt: &impl Print,
     profile: &[u8],
     include: &[u8],
     exclude: &[u8],
     given: &[u32; 4],
     path: &mut [u32; 4],
-) -> bool {
+) -> io::Result<bool> {
     let answer = next(profile, asked(), include, exclude, given, path);
-    print_answer(b"next", five_of(answer), *path)
+    print_answer(rt, b"next", five_of(answer), *path)
 }
 
 // First, then next until there is no other. A proved loop has to end: this one makes at most eight calls, more than the profile has paths.
-fn show_paths(profile: &[u8], include: &[u8], exclude: &[u8]) {
+fn show_paths(rt: &impl Print, profile: &[u8], include: &[u8], exclude: &[u8]) -> io::Result<()> {
     let mut path = [0u32; 4];
-    let mut more = show_first(profile, include, exclude, &mut path);
+    let mut more = show_first(rt, profile, include, exclude, &mut path)?;
     let mut turns = 8u32;
     while turns > 0 && more {
         let given = path;
-        more = show_next(profile, include, exclude, &given, &mut path);
+        more = show_next(rt, profile, include, exclude, &given, &mut path)?;
         turns -= 1;
     }
+    Ok(())
 }
 
 // The path after one that isn't listed.
-fn show_next_after(profile: &[u8], include: &[u8], exclude: &[u8]) {
+fn show_next_after(
+    rt: &impl Print,
+    profile: &[u8],
+    include: &[u8],
+    exclude: &[u8],
+) -> io::Result<()> {
     let mut path = [0u32; 4];
-    print_path(b"after ", A_LONGER_PATH);
-    text(b"\n");
-    show_next(profile, include, exclude, &A_LONGER_PATH, &mut path);
+    print_path(rt, b"after ", A_LONGER_PATH)?;
+    text(rt, b"\n")?;
+    show_next(rt, profile, include, exclude, &A_LONGER_PATH, &mut path)?;
+    Ok(())
 }
 
-fn show(title: &[u8], profile: &[u8], include: &[u8], exclude: &[u8]) {
-    text(title);
-    show_tree(profile, include, exclude);
-    show_paths(profile, include, exclude);
-    show_next_after(profile, include, exclude);
+fn show(
+    rt: &impl Print,
+    title: &[u8],
+    profile: &[u8],
+    include: &[u8],
+    exclude: &[u8],
+) -> io::Result<()> {
+    text(rt, title)?;
+    show_tree(rt, profile, include, exclude)?;
+    show_paths(rt, profile, include, exclude)?;
+    show_next_after(rt, profile, include, exclude)
 }
 
-fn show_requests(profile: &[u8]) {
+fn show_requests(rt: &impl Print, profile: &[u8]) -> io::Result<()> {
     let nothing = [0u8; 0];
     show(
+        rt,
         b"Profile W by AS 64497 and 64498\n",
         profile,
         &ONWARD,
         &nothing,
-    );
+    )?;
     show(
-        b"\n_the same without 192.0.2.12\n",
+        rt,
+        b"\nThe same without 192.0.2.12\n",
         profile,
         &ONWARD,
         &WITHOUT_Q,
-    );
+    )?;
     show(
-        b"\n_the same with the exclusion of 192.0.2.11 and 192.0.2.12 only desired\n",
+        rt,
+        b"\nThe same with the exclusion of 192.0.2.11 and 192.0.2.12 only desired\n",
         profile,
         &ONWARD,
         &DESIRED_WITHOUT_P_AND_Q,
-    );
+    )?;
     show(
-        b"\n_by AS 64497 and back to 64496\n",
+        rt,
+        b"\nBy AS 64497 and back to 64496\n",
         profile,
         &BACK,
         &nothing,
-    );
+    )
 }
 
-fn main() {
-    show_requests(&PROFILE_W);
+fn main(rt: HostRuntime) -> io::Result<()> {
+    show_requests(&rt, &PROFILE_W)
 }

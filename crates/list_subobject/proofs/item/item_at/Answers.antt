@@ -3,7 +3,6 @@ use mathlib.Core.Path.{refl}
 use native.Mathlib.Omega.{arith}
 use Rattle.model.specs.Subobject.{type_at, area_length_at, length_at}
 use Rattle.laws.proofs.Walk.{length-least}
-use borrow.Author.Rules.{rules}
 use Rattle.list_subobject.proofs.item.item_at.Goals as goal
 
 pub returns : goal.returns

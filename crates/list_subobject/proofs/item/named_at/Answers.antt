@@ -7,7 +7,6 @@ use Rattle.model.specs.Bytes.{part}
 use Rattle.model.specs.Subobject.{prefix, system, area, stretch}
 use Rattle.laws.proofs.Exrs.{named_33}
 use Rattle.list_subobject.proofs.FormLaws.{room_1, room_5, room_6, room_7, named_1, named_5, named_6, named_7, named-32}
-use borrow.Author.Rules.{rules}
 use Rattle.list_subobject.proofs.item.named_at.Goals as goal
 
 pub u32_at-requires : goal.u32_at-requires

@@ -2,7 +2,6 @@
 use mathlib.Core.Path.{sym, ap}
 use Prim.Native.Nat.{ℕ, ◌+◌}
 use Rattle.list_subobject.proofs.FormLaws.{long_1}
-use borrow.Author.Rules.{rules}
 use Rattle.list_subobject.proofs.item.next_at.Goals as goal
 
 pub returns-then-list-at-eq1 : goal.returns-then-list-at-eq1

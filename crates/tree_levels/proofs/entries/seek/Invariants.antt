@@ -1,0 +1,15 @@
+-- `tree_levels::entries::seek` meets its contract. The loop's invariant: the cells passed are below the node. The measure is how many cells are left.
+use Prim.Native.Nat.{ℕ, ◌+◌, ◌-◌, ◌≤◌, ◌<◌}
+use native.Mathlib.Omega.{arith}
+use native.Mathlib.Nat.{eq-or-lt_of_le}
+use mathlib.Core.Path.{◌≡◌, sym, subst}
+use mathlib.Core.Logic.{⊎_elim}
+use mathlib.Core.List.{List}
+use lib.ListN.{get_or}
+use Rattle.tree_levels.proofs.entries.seek.Given as goal
+
+abbrev pub invariant-loop-at : goal.invariant-loop-at
+invariant-loop-at l = (l.from ≤ l.at) × (l.at ≤ l.end) × ((k : ℕ) → l.from ≤ k → k < l.at → get_or l.addresses k 0 < l.node.0)
+
+abbrev pub decreases-loop-at : goal.decreases-loop-at
+decreases-loop-at l = l.end - l.at

@@ -1,0 +1,122 @@
+-- `tree_levels::lay_out` meets its contract. The loop's invariant: for every search over these domains, i legs are laid out (`Filled`). The measure is how many domains are left.
+use Prim.Native.Nat.{ℕ, ◌+◌, ◌-◌, ◌*◌, ◌≤◌, ◌<◌}
+use native.Mathlib.Omega.{arith}
+use mathlib.Core.Path.{◌≡◌, ◌∙◌}
+use native.Mathlib.Numerals.{add-one}
+use lib.ListN.{get_or, set, length-set}
+use lib.Seq.{get_or-set_same}
+use Rattle.model.specs.Profile.{hop_count}
+use Rattle.model.specs.Request.{Search}
+use Rattle.laws.proofs.BigEndian.{number_bound}
+use Rattle.profile_records.specs.Layout.{layout_of}
+use Rattle.tree_levels.specs.Entries.{heads_of}
+use Rattle.tree_levels.specs.Levels.{Covers, Room}
+use Rattle.tree_levels.proofs.Legs.{count-is}
+use Rattle.tree_levels.proofs.Filling.{Filled, filled-start, next-filled, last-filled, room-more, few-heads}
+use Rattle.tree_levels.proofs.lay_out.Goals as goal
+use Rattle.tree_levels.proofs.lay_out.Goals.{After-shared_slice_known-1}
+
+few-hops : (c : After-shared_slice_known-1) → hop_count c.args.s.now < 65536
+few-hops c = number_bound 2 c.args.s.now 8 (λ (k : ℕ). (c.type_inv.s k).fits)
+
+pub loop-i-init : goal.loop-i-init
+loop-i-init c =
+    let a = c.args in
+    let several = c.requires.several.0 in
+    let room = c.requires.several.1 in (
+      omega (arith, several.some),
+      omega arith,
+      omega arith,
+      record {
+        for_addresses_lem = simp length-set room.for_addresses_lem;
+        for_starts = simp length-set room.for_starts;
+        for_firsts = room.for_firsts;
+        for_lasts = room.for_lasts;
+      },
+      λ S covers.
+          let long = count-is S (layout_of a.layout) a.s.now a.domains a.count _ _ several covers in
+          let source : S.source ≡ a.source.0 = covers.source_is ∙ get_or-set_same a.addresses.now 0 a.source.0 0 (omega (arith, room.for_addresses_lem)) in
+          rw (← source)
+          (filled-start S (layout_of a.layout) a.s.now a.addresses.now a.starts.now a.firsts.now a.lasts.now
+          (omega (arith, several.some)) (omega (arith, room.for_addresses_lem)) (omega (arith, room.for_starts))),
+    )
+
+pub note_leg-leg-requires : goal.note_leg-leg-requires
+note_leg-leg-requires c =
+    record {
+      right_profile = c.requires.right_profile;
+      i_bound = omega arith;
+    }
+
+pub tallied-examined-requires : goal.tallied-examined-requires
+tallied-examined-requires c =
+    let range = c.note_leg-leg.ensures.range in
+    (omega arith, range.order, omega (arith, few-hops (goal.at.tallied-examined-requires c).After-shared_slice_known-1, range.within))
+
+pub collect-end-requires : goal.collect-end-requires
+collect-end-requires c =
+    let a = c.args in
+    let l = c.loop-i in
+    let leg = c.note_leg-leg in
+    let range = leg.ensures.range in
+    let few =
+    few-heads (layout_of a.layout) a.s.now a.domains a.count l.i (l.i + 1) leg.result.first leg.result.last c.requires.right_profile.passed c.requires.several.0 (add-one l.i)
+    (omega arith) range in
+    record {
+      right_profile = c.requires.right_profile;
+      first_le_last = (range.order, range.within, few);
+      from_bound = (omega arith, l.invariant.3.for_addresses_lem);
+    }
+
+pub loop-i-preserved : goal.loop-i-preserved
+loop-i-preserved c =
+    let a = c.args in
+    let l = c.loop-i in
+    let leg = c.note_leg-leg in
+    let range = leg.ensures.range in
+    let L = layout_of a.layout in
+    let file = a.s.now in
+    let few =
+    few-heads L file a.domains a.count l.i (l.i + 1) leg.result.first leg.result.last c.requires.right_profile.passed c.requires.several.0 (add-one l.i) (omega arith) range in (
+      omega arith,
+      omega (arith, c.collect-end.ensures.value),
+      omega (arith, few-hops (goal.at.loop-i-preserved c).After-shared_slice_known-1, range.within, c.tallied-examined.ensures),
+      room-more L file l.addresses l.starts l.firsts l.lasts l.end _ _ l.i (l.i + 1 + 1) _ _ leg.result.first leg.result.last
+          (heads_of L file leg.result.first leg.result.last) _ c.collect-end.result l.invariant.3 leg.ensures (omega arith) c.collect-end.ensures.addresses_after,
+      λ S covers.
+          next-filled S L file a.domains a.count _ _ c.requires.several.0 covers l.addresses l.starts l.firsts l.lasts l.end l.examined l.i (l.i + 1)
+          (l.i + 1 + 1) _ _ leg.result.first leg.result.last _ c.collect-end.result c.tallied-examined.result (l.invariant.4 S covers) l.invariant.3
+          (omega arith) (add-one l.i) (add-one (l.i + 1)) (omega arith) leg.ensures c.collect-end.ensures.value c.collect-end.ensures.addresses_after
+          c.tallied-examined.ensures,
+    )
+
+pub note_leg-leg-requires-2 : goal.note_leg-leg-requires-2
+note_leg-leg-requires-2 c =
+    record {
+      right_profile = c.requires.right_profile;
+      i_bound = omega arith;
+    }
+
+pub tallied-examined-requires-2 : goal.tallied-examined-requires-2
+tallied-examined-requires-2 c =
+    let range = c.note_leg-leg-2.ensures.range in
+    (omega arith, range.order, omega (arith, few-hops (goal.at.tallied-examined-requires-2 c).After-shared_slice_known-1, range.within))
+
+pub put_destination-requires : goal.put_destination-requires
+put_destination-requires c =
+    let room = c.loop-i.invariant.3 in
+    (omega arith, omega arith, room.for_addresses_lem, room.for_starts)
+
+pub returns : goal.returns
+returns c =
+    let a = c.args in
+    let l = c.loop-i in
+    let leg = c.note_leg-leg-2 in
+    let put = c.put_destination.ensures in
+    λ S covers.
+    let from_first : Covers S (layout_of a.layout) a.s.now a.domains a.count (get_or (set a.addresses.now 0 a.source.0) 0 0) a.destination.0 =
+    rw (get_or-set_same a.addresses.now 0 a.source.0 0 (omega (arith, c.requires.several.1.for_addresses_lem))) covers in
+    rw (put.0, put.1)
+    (last-filled S (layout_of a.layout) a.s.now a.domains a.count _ _ c.requires.several.0 covers l.addresses l.starts l.firsts l.lasts l.end l.examined
+    l.i (l.i + 1 + 1) _ _ leg.result.first leg.result.last c.tallied-examined-2.result (l.invariant.4 S from_first) l.invariant.3 c.requires.right_profile.passed (omega arith) (omega arith) (omega arith)
+    leg.ensures c.tallied-examined-2.ensures)

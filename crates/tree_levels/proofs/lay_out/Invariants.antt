@@ -1,0 +1,27 @@
+-- `tree_levels::lay_out` meets its contract. The loop's invariant: for every search over these domains, i legs are laid out (`Filled`). The measure is how many domains are left.
+use Prim.Native.Nat.{ℕ, ◌+◌, ◌-◌, ◌*◌, ◌≤◌, ◌<◌}
+use native.Mathlib.Omega.{arith}
+use mathlib.Core.Path.{◌≡◌, ◌∙◌}
+use native.Mathlib.Numerals.{add-one}
+use lib.ListN.{get_or, set, length-set}
+use lib.Seq.{get_or-set_same}
+use Rattle.model.specs.Profile.{hop_count}
+use Rattle.model.specs.Request.{Search}
+use Rattle.laws.proofs.BigEndian.{number_bound}
+use Rattle.profile_records.specs.Layout.{layout_of}
+use Rattle.tree_levels.specs.Entries.{heads_of}
+use Rattle.tree_levels.specs.Levels.{Covers, Room}
+use Rattle.tree_levels.proofs.Legs.{count-is}
+use Rattle.tree_levels.proofs.Filling.{Filled, filled-start, next-filled, last-filled, room-more, few-heads}
+use Rattle.tree_levels.proofs.lay_out.Given as goal
+
+abbrev pub invariant-loop-i : goal.invariant-loop-i
+invariant-loop-i l =
+    (l.i < l.count)
+    × (l.end ≤ 1 + 16 * l.i)
+    × (l.examined ≤ 65535 * l.i)
+    × Room l.addresses l.starts l.firsts l.lasts
+    × ((S : Search) → Covers S (layout_of l.layout) l.s l.domains l.count (get_or l.initial.addresses 0 0) l.destination.0 → Filled S (layout_of l.layout) l.s l.addresses l.starts l.firsts l.lasts l.end l.examined l.i)
+
+abbrev pub decreases-loop-i : goal.decreases-loop-i
+decreases-loop-i l = l.count - l.i
