@@ -41,8 +41,8 @@ scan-requires c =
       right_profile = ways.worked.right;
       first_le_last = (range.order, range.within, ways.worked.bandwidth-right, ways.stands.reached);
       next_place = subst₂ (λ (m n : ℕ). NextPlace a.addresses.now a.reaches.now (get_or a.starts.now m 0) (get_or a.starts.now n 0))
-            (sym (add-one a.i)) (sym (add-two a.i))
-            (next_place_lem ways.search (layout_of a.layout) a.s.now a.q a.addresses.now a.reaches.now a.starts.now a.firsts.now a.lasts.now ways.worked a.i c.requires.0);
+          (sym (add-one a.i)) (sym (add-two a.i))
+          (next_place_lem ways.search (layout_of a.layout) a.s.now a.q a.addresses.now a.reaches.now a.starts.now a.firsts.now a.lasts.now ways.worked a.i c.requires.0);
     }
 
 pub returns : goal.returns
