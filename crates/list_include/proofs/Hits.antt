@@ -11,13 +11,17 @@ use lib.Dec.{eqb}
 use borrow.Author.Tests.{eq-eqb, ne_eqb}
 use Rattle.model.specs.Lists.{count_from, keep, keep_if}
 use Rattle.model.specs.declared.Domain.{Domain}
-use Rattle.model.specs.Bytes.{number}
+use Rattle.model.specs.Bytes.{number, part}
 use Rattle.model.specs.Profile.{domain_at, domain_count, domain_start, domains}
 use Rattle.model.specs.Subobject.{Area}
 use Rattle.model.specs.Sequence.{no_domain, domain_of, has_area, of_system, of_area}
 use Rattle.laws.proofs.Lists.{keep_append, keep_agree, count_from_mem}
 use Rattle.laws.proofs.Records.{length-domains, domain_at_lem}
 use Rattle.list_include.specs.NamedDomain.{found_of, found_as, system_is, area_is}
+
+-- the area of a kind whose bytes stand in a list
+abbrev pub area_of : List ℕ → ℕ → ℕ → ℕ → Area
+area_of list kind start count = record { kind = kind; bytes = part list start count }
 
 pub count_snoc : (i n : ℕ) → count_from i (suc n) ≡ count_from i n ++ ((i + n) ∷ [])
 unfolding count_from

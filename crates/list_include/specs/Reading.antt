@@ -15,9 +15,7 @@ use Rattle.model.specs.Calls.{pin_mark, pin_node}
 use Rattle.list_subobject.specs.declared.item.Item.{Item}
 use Rattle.list_subobject.specs.Items.{named_of, ItemAt}
 use Rattle.list_include.specs.declared.named_domains.NamedDomain.{NamedDomain}
-use Rattle.list_include.specs.declared.named_domains.NamedDomain.TheVariants as NamedDomain
 use Rattle.list_include.specs.declared.state.Waiting.{Waiting}
-use Rattle.list_include.specs.declared.state.Waiting.TheVariants as Waiting
 use Rattle.list_include.specs.declared.state.State.{State}
 use Rattle.list_include.specs.declared.state.ReadStep.{ReadStep}
 

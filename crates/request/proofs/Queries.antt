@@ -9,7 +9,7 @@ use Rattle.model.specs.declared.Refusal.{Refusal}
 use Rattle.model.specs.declared.Round.TheVariants.{First}
 use Rattle.model.specs.declared.Verdict.{Verdict}
 use Rattle.model.specs.declared.Verdict.TheVariants.{Pass, Refuse}
-use Rattle.model.specs.Profile.{layout_in, domains, domain_count}
+use Rattle.model.specs.Profile.{layout_in, domain_count}
 use Rattle.model.specs.Sequence.{refused, good, meaning}
 use Rattle.model.specs.Request.{Request, reading_input, provided, request_verdict, sequence_of}
 use Rattle.laws.specs.Lists.{lists_of}

@@ -8,7 +8,7 @@ use native.Mathlib.Omega.{arith}
 use lib.ListN.{length, get_or, set, length-map}
 use lib.Seq.{slice, paste, length-paste}
 use Rattle.model.specs.declared.Hop.{Hop}
-use Rattle.model.specs.Profile.{Layout, hops, cost_limit}
+use Rattle.model.specs.Profile.{Layout, cost_limit}
 use Rattle.model.specs.Subobject.{Subobject, subobjects}
 use Rattle.model.specs.Exclusion.{in_force, excluded_node}
 use Rattle.model.specs.Request.{Search}
@@ -128,9 +128,6 @@ module _
 
       pub filled_step : (exit : List ℕ) → exit ≡ filled_at S i mid → exit ≡ filled_from S i (suc (suc m)) d
       filled_step exit e = e ∙ ap (filled_at S i) written ∙ Filled-more S i (suc m) d (omega (arith, starts_by (suc i) (omega arith)))
-
-      pub exit-long : (exit : List ℕ) → exit ≡ filled_at S i mid → length exit ≡ length d
-      exit-long exit e = placed-long i (omega arith) mid exit mid_long e ∙ mid_long ∙ sym long
 
     -- ---- a place before those that stand
 

@@ -9,15 +9,12 @@ use lib.ListN.{length}
 use lib.Seq.{slice}
 use borrow.Author.Tests.{lt-ltb}
 use Rattle.model.specs.declared.Hop.{Hop}
-use Rattle.model.specs.declared.Round.{Round}
 use Rattle.model.specs.Profile.{Layout, hops, between, cost_limit}
-use Rattle.model.specs.Subobject.{subobjects}
-use Rattle.model.specs.Exclusion.{in_force, excluded_node}
+use Rattle.model.specs.Exclusion.{excluded_node}
 use Rattle.model.specs.Floats.{at_least}
 use Rattle.model.specs.Request.{Search}
-use Rattle.model.specs.Path.{leg_at, exclusions_at, node_excluded_at, keeps_pin, place_allows, allowed, leaves, hops_from}
+use Rattle.model.specs.Path.{leg_at, node_excluded_at, keeps_pin, place_allows, allowed, leaves, hops_from}
 use Rattle.model.specs.Tree.{suffixes_at}
-use Rattle.model.specs.WrittenList.{pin_if}
 use Rattle.laws.specs.Lists.{Lists}
 use Rattle.laws.specs.Reach.{unreached, least_from, reach_if, via, best_from}
 use Rattle.laws.proofs.Reach.{best_from_agree, best_from-keep}

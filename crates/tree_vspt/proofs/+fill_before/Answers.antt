@@ -1,0 +1,65 @@
+-- `tree_vspt::fill_before` meets its contract, by recursion on how many places are left: with none all stands, else one place is filled from what stands behind it.
+use mathlib.Core.Path.{◌≡◌, sym, ap, subst, ◌∙◌}
+use Prim.Native.Nat.{ℕ, suc, ◌-◌}
+use native.Mathlib.Omega.{arith}
+use Rattle.model.specs.Request.{Search}
+use Rattle.laws.specs.Lists.{lists_of}
+use Rattle.profile_records.specs.Layout.{layout_of}
+use Rattle.request.specs.Query.{search_for}
+use Rattle.tree_vspt.specs.Tree.{HoldsFrom, filled_from}
+use Rattle.tree_vspt.proofs.Filled.{filled_none, holds-whole}
+use Rattle.tree_vspt.proofs.Filling.{placed-long, stands_next, stands_more, filled_from_lem}
+use Rattle.tree_vspt.proofs.+fill_before.Goals as goal
+
+pub returns-then-n-eq0 : goal.returns-then-n-eq0
+returns-then-n-eq0 t c =
+    let a = c.args in
+    let lists = lists_of a.include.now a.exclude.now in
+    let none : a.n ≡ 0 = c.if-n-eq0.true in
+    let S : Search = search_for (layout_of a.layout) a.s.now lists a.q in (
+      filled_none S 0 a.reaches.now ∙ ap (λ (n : ℕ). filled_from S 0 n a.reaches.now) (sym none),
+      holds-whole S a.reaches.now (subst (λ (n : ℕ). HoldsFrom S n a.reaches.now) none c.requires.holds_from),
+    )
+
+pub fill_place-requires-clause-holds : goal.fill_place-requires-clause-holds
+fill_place-requires-clause-holds t c =
+    let a = c.args in
+    let lists = lists_of a.include.now a.exclude.now in
+    let pre = c.requires in
+    let some : suc (a.n - 1) ≡ a.n = omega arith in
+    stands_next (layout_of a.layout) a.s.now lists a.q pre.sound_layout.0.cheap pre.sound_layout.1 a.addresses.now a.starts.now a.firsts.now a.lasts.now pre.laid_out_for.0
+    a.n (a.n - 1) some pre.sound_layout.2 a.reaches.now pre.laid_out_for.1 pre.holds_from
+
+pub fill_before-requires : goal.fill_before-requires
+fill_before-requires t c =
+    let a = c.args in
+    let lists = lists_of a.include.now a.exclude.now in
+    let pre = c.requires in
+    let some : suc (a.n - 1) ≡ a.n = omega arith in
+    let w = c.fill_place.ensures in (
+      omega (arith, c.decreases),
+      (
+        (pre.sound_layout.0, pre.sound_layout.1, omega (arith, pre.sound_layout.2)),
+        (
+          (
+            pre.laid_out_for.0,
+            placed-long (layout_of a.layout) a.s.now lists a.q pre.sound_layout.0.cheap pre.sound_layout.1 a.addresses.now a.starts.now a.firsts.now a.lasts.now pre.laid_out_for.0
+                (a.n - 1) (omega (arith, pre.sound_layout.2)) a.reaches.now _ pre.laid_out_for.1 w
+                ∙ pre.laid_out_for.1,
+          ),
+          stands_more (layout_of a.layout) a.s.now lists a.q pre.sound_layout.0.cheap pre.sound_layout.1 a.addresses.now a.starts.now a.firsts.now a.lasts.now pre.laid_out_for.0
+              a.n (a.n - 1) some pre.sound_layout.2 a.reaches.now pre.laid_out_for.1 pre.holds_from _ w,
+        ),
+      ),
+    )
+
+pub returns : goal.returns
+returns t c =
+    let a = c.args in
+    let lists = lists_of a.include.now a.exclude.now in
+    let pre = c.requires in
+    let some : suc (a.n - 1) ≡ a.n = omega arith in (
+      filled_from_lem (layout_of a.layout) a.s.now lists a.q pre.sound_layout.0.cheap pre.sound_layout.1 a.addresses.now a.starts.now a.firsts.now a.lasts.now pre.laid_out_for.0
+          a.n (a.n - 1) some pre.sound_layout.2 a.reaches.now pre.laid_out_for.1 pre.holds_from _ _ c.fill_place.ensures c.fill_before.ensures.0,
+      c.fill_before.ensures.1,
+    )

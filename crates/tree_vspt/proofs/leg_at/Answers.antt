@@ -1,0 +1,62 @@
+-- `tree_vspt::leg_at` meets its contract: each field is read where the place has it (`Sequences`), the domain's record lies in the file, and its EXRS in a stretch of the
+-- include list.
+use mathlib.Core.Path.{◌≡◌, refl, sym, ap, subst, ◌∙◌}
+use native.Mathlib.Numerals.{add-one}
+use native.Mathlib.Omega.{arith}
+use Prim.Native.Nat.{ℕ, suc, ◌+◌}
+use lib.ListN.{get_or}
+use Rattle.model.specs.Exclusion.{excluded_domain}
+use Rattle.laws.specs.Exrs.{Stretch, carried_in}
+use Rattle.laws.specs.Lists.{lists_of}
+use Rattle.list_exclusion.specs.Place.{exclusions_there}
+use Rattle.profile_records.specs.Layout.{layout_of}
+use Rattle.tree_vspt.proofs.Sequences.{domain-inside, area-short, leg-for}
+use Rattle.tree_vspt.proofs.leg_at.Goals as goal
+
+pub domain_at-d-requires : goal.domain_at-d-requires
+domain_at-d-requires c =
+    let a = c.args in
+    let lists = lists_of a.include.now a.exclude.now in
+    domain-inside (layout_of a.layout) a.s.now lists a.q c.requires.0 a.i c.requires.1
+
+pub first_exrs-exrs-requires : goal.first_exrs-exrs-requires
+first_exrs-exrs-requires c =
+    let a = c.args in
+    subst (λ (from : ℕ). Stretch a.include.now from (get_or a.q.named a.i 0)) (sym c.stretch_start.ensures) (c.requires.0.placed a.i c.requires.1)
+
+pub excludes_domain_there-excluded-requires : goal.excludes_domain_there-excluded-requires
+excludes_domain_there-excluded-requires c =
+    let a = c.args in
+    let lists = lists_of a.include.now a.exclude.now in (
+      c.requires.0.exclude-right,
+      c.first_exrs-exrs.ensures.0,
+      rw c.domain_at-d.ensures (area-short (layout_of a.layout) a.s.now lists a.q c.requires.0 a.i c.requires.1),
+    )
+
+pub returns : goal.returns
+returns c =
+    let a = c.args in
+    let lists = lists_of a.include.now a.exclude.now in
+    let two-on : a.i + 2 ≡ suc (suc a.i) = omega arith in
+    λ addresses tally laid.
+    leg-for (layout_of a.layout) a.s.now lists a.q c.requires.0 a.i c.requires.1
+    addresses a.starts.now a.firsts.now a.lasts.now tally laid _
+    (record {
+      from_made = refl;
+      to_made = c.next_domain-to.ensures;
+      round_made = refl;
+      stretch_made = c.first_exrs-exrs.ensures.0;
+      carried_made =
+          c.first_exrs-exrs.ensures.1
+          ∙ ap (λ (from : ℕ). carried_in a.include.now from (get_or a.q.named a.i 0)) c.stretch_start.ensures;
+      excluded_made =
+          c.excludes_domain_there-excluded.ensures
+          ∙ ap (excluded_domain (exclusions_there a.q.round lists _ _)) c.domain_at-d.ensures;
+      pinned_made = refl;
+      pin_made = refl;
+      first_made = refl;
+      last_made = refl;
+      start_made = refl;
+      next_made = ap (λ (n : ℕ). get_or a.starts.now n 0) (add-one a.i);
+      end_made = ap (λ (n : ℕ). get_or a.starts.now n 0) two-on;
+    })
