@@ -10,7 +10,7 @@ use lib.IntN.{ℤ, pos, negsuc}
 use lib.Dec.{T, leb, ltb, eqb, leb→le, ltb→lt, eqb→eq, eqb_refl}
 use lib.Arith.{lt_of_le-ne}
 use lib.Pow.{pow-add, pow_pos, pow-lt}
-use lib.Ieee.{Float, nan, inf, fin, binary32, binary64, up, down, size, round, fits, is_nan, of_bits, to_bits, nan_bits, of_int, le, lt, ne}
+use lib.Ieee.{Float, nan, inf, fin, binary32, binary64, up, down, size, round, fits, is_nan, of_bits, to_bits, nan_bits, of_int, le, ne}
 use lib.Ieee.Digits.{back, size-le}
 use lib.Ieee.Fits.{and_i, and_l, and_r, down_pos, kept-lt, fits_widens}
 use lib.Ieee.Exact.{HasValue}

@@ -31,7 +31,8 @@ use Rattle.laws.proofs.FirstNextExact.{first_exact as first-of-listing, next_exa
 use Rattle.laws.proofs.SeriesIsBook.{series-is-book as series-of-listing, series-refused}
 use Rattle.laws.proofs.SeriesListing.{first_with, next_with, first_then_nexts, handed_out, Roomy, last_handed, last_path, reply_at, hands_out, tells_end, tells_none}
 pub use Rattle.laws.proofs.ClassesApart.{classes_apart}
-pub use Rattle.laws.proofs.Nobodys.{profile_owned, list_owned, nobodys_absent}
+pub use Rattle.laws.proofs.Nobodys.{profile_owned, list_owned}
+pub use Rattle.laws.proofs.NobodysAbsent.{nobodys_absent}
 pub use Rattle.laws.proofs.TreeLeast.{tree-least}
 pub use Rattle.laws.proofs.BoundExact.{bound_exact, bandwidth_exact}
 pub use Rattle.laws.proofs.NearestFloat.{float_exact, float_nearest, float_within_eight}

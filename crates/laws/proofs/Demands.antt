@@ -6,18 +6,17 @@ use mathlib.Core.Path.{◌≡◌, sym, subst}
 use mathlib.Core.Logic.Iff
 use mathlib.Core.Logic.{◌↔◌}
 use mathlib.Core.Bool.{true, false}
-use mathlib.Core.List.{List, [], ◌∷◌, ◌++◌, Memᴰ}
-use mathlib.Core.Option.{none}
+use mathlib.Core.List.{List, [], ◌∷◌, ◌++◌}
 use lib.ListN.{length, get_or}
 use Rattle.model.specs.declared.Round.{Round}
 use Rattle.model.specs.declared.Verdict.TheVariants.{Pass}
 use Rattle.model.specs.declared.ListKind.{ListKind}
 use Rattle.model.specs.Profile.{Layout, profile_verdict, domain_count, domain_at, domains, hops, verdict_on}
 use Rattle.model.specs.Subobject.{form_verdict, subobjects}
-use Rattle.model.specs.Sequence.{Stop, stop_with, good, domains_of}
+use Rattle.model.specs.Sequence.{Stop, good, domains_of}
 use Rattle.model.specs.WrittenList.{stops, written, unwritable}
 use Rattle.model.specs.Request.{Request, layout_for, reading_input, search_in, Accepted}
-use Rattle.model.specs.Path.{no_stop, shortest_paths}
+use Rattle.model.specs.Path.{shortest_paths}
 use Rattle.model.specs.Rounds.{round_of, search_of}
 use Rattle.model.specs.Calls.{path_length, reading_of, build_tree, first, next}
 use Rattle.model.specs.Series.{Call, book, replies, run}
@@ -30,7 +29,9 @@ use Rattle.laws.proofs.AcceptedRequest.{accepted-verdict, accepted-meaning, pass
 use Rattle.laws.proofs.SequenceDomains.{meaning-different, meaning-inside, meaning_first, different-places}
 use Rattle.laws.proofs.ClassesApart.{ClassesApart, Holds}
 use Rattle.laws.proofs.ClassesApart as Classes
-use Rattle.laws.proofs.Nobodys.{Owned, NamesOwned, NobodysAbsent}
+use Rattle.laws.proofs.Nobodys.{Owned, NamesOwned}
+use Rattle.laws.proofs.NobodysAbsent.{NobodysAbsent}
+use Rattle.laws.proofs.NobodysAbsent as Absent
 use Rattle.laws.proofs.Nobodys as Nobodys
 use Rattle.laws.proofs.ReadsBack as Lists
 use Rattle.laws.proofs.SeriesListing.{first_with, next_with, first_then_nexts, handed_out, Roomy, last_handed, last_path, reply_at}
@@ -40,6 +41,7 @@ use Rattle.laws.proofs.Listing.{Listing, the_listing, empty_exactly, none_in_any
 use Rattle.laws.proofs.Answered.{TreeMeans, FirstMeans, NextMeans}
 use Rattle.laws.proofs.Answered as Answered
 use Rattle.laws.proofs.Claims as Claims
+pub use Rattle.laws.proofs.SequenceRight.{SequenceRight}
 
 -- ==== Demand 1: whatever bytes arrive
 
@@ -66,7 +68,7 @@ list_owned = Nobodys.list_owned
 
 -- and an accepted request has none in its profile, in either list and in what its EXRS carry.
 pub nobodys_absent : (r : Request) (sequence : List Stop) → Accepted r sequence → NobodysAbsent r
-nobodys_absent = Nobodys.nobodys_absent
+nobodys_absent = Absent.nobodys_absent
 
 -- ==== Demand 2: domain lists and the tree
 
@@ -80,13 +82,6 @@ pub reads-back
     → unwritable (domains profile) indexes marks nodes counts exrs ≡ false
     → reading_of profile (get_or indexes 0 0) (written (domains profile) (stops indexes marks nodes counts exrs)) ≡ good (stops indexes marks nodes counts exrs)
 reads-back = Lists.reads-back
-
--- What is read: 1 to 16 domains of the profile, the ingress domain first and without entry constraint or EXRS, none twice.
-pub record SequenceRight (r : Request) (sequence : List Stop) : Type 0 where
-  pub count : (1 ≤ length sequence) × (length sequence ≤ 16)
-  pub first : get_or sequence 0 no_stop ≡ stop_with r.ingress []
-  pub known : (p : Stop) → Memᴰ p sequence → p.domain < domain_count r.profile
-  pub once : (i j : ℕ) → i < j → j < length (domains_of sequence) → get_or (domains_of sequence) i 0 ≡ get_or (domains_of sequence) j 0 → ⊥
 
 module _ (r : Request) (sequence : List Stop) (bytes : Bytes r.profile) (right : Accepted r sequence) where
   sorted : SortedHops (hops (layout_for r) r.profile)

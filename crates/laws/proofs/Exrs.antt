@@ -1,14 +1,14 @@
 -- EXRS in a list of right form: each is a whole subobject of right form wherever its bytes stand, so those of a stretch, back to back, read as themselves and carry
 -- the same exclusions. Bytes that are whole EXRS are all that their EXRS hold. By recursion along the stretch.
-use Prim.Native.Nat.{ℕ, zero, suc, ◌+◌, ◌-◌, ◌%◌, ◌≤◌, ◌<◌}
+use Prim.Native.Nat.{ℕ, zero, suc, ◌+◌, ◌-◌, ◌%◌, ◌≤◌}
 use native.Mathlib.Nat.{add-zero, zero-add}
 use native.Mathlib.Omega.{arith}
 use mathlib.Core.Path.{◌≡◌, refl, sym, ap, ap₂, subst, ◌∙◌}
 use mathlib.Core.Logic.{⊎_elim}
-use mathlib.Core.Bool.{Bool, true, false, not, cond, ◌&&◌}
-use mathlib.Core.List.{List, [], ◌∷◌, ◌++◌, map, append-nil, append_assoc}
+use mathlib.Core.Bool.{Bool, true, false, cond}
+use mathlib.Core.List.{List, [], ◌∷◌, ◌++◌, append-nil}
 use lib.ListN.{length, get_or, take, drop, length-append, length-drop, take-append-drop, drop_of_length-le, get_or-append}
-use lib.Seq.{length-take-le, take-append_seam, get_or-take, get_or-drop, drop-drop, take_all}
+use lib.Seq.{length-take-le, take-append_seam, get_or-take, get_or-drop, drop-drop}
 use lib.Dec.{eqb, leb, ltb}
 use borrow.Author.Tests.{eqb-true, eq-eqb, ltb-true, ltb-false}
 use Rattle.model.specs.declared.Verdict.{Verdict}
@@ -23,10 +23,9 @@ use Rattle.model.specs.WrittenList.{is_exrs, whole_exrs}
 use Rattle.laws.specs.Exrs.{bytes_named, exrs_in, carried_in}
 use Rattle.laws.proofs.Tests.{decide, and_both, clash}
 use Rattle.laws.proofs.Lists.{each_append}
-use Rattle.laws.proofs.Turns.{and_then_pass, refuse_if_pass, refuse_not_pass}
+use Rattle.laws.proofs.Turns.{and_then_pass}
 use Rattle.laws.proofs.Forms.{Alike, pass_right, plain_of, carried_of, walk-alike, whole_alike}
 use Rattle.laws.proofs.Walk.{right_subobject, own_end, right_here, right_next, subobjects_next, subobjects-end}
-use Rattle.laws.proofs.InARow.{Each}
 use Rattle.laws.proofs.Subobjects.{Item, Encoded, AllEncoded, joined, placed, subobjects-whole}
 
 -- ---- what type 33 names

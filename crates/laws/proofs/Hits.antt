@@ -27,12 +27,9 @@ use Rattle.laws.proofs.Suffixes.{hops_from_mem, behind}
 use Rattle.laws.proofs.EntryNodes.{mem_entry_nodes}
 use Rattle.laws.specs.Reach.{least_from}
 use Rattle.laws.proofs.TreeLeast.{entry_of, entry-is, legs_left}
+pub use Rattle.laws.proofs.Ends.{ends_of}
 
 -- ---- what hits
-
--- the tails and the heads of hop records
-abbrev pub ends_of : List Hop → List ℕ
-ends_of hs = each (λ (h : Hop). h.tail.0 ∷ h.head.0 ∷ []) hs
 
 -- an exclusion takes away one of these domains or of these nodes: all of a profile, or those of one stop
 unfoldable pub hits : List Domain → List ℕ → Subobject → Bool

@@ -1,26 +1,23 @@
 -- Excluding what the profile lacks changes nothing but round and tally: document 02, request [1]. The exclusions that hit decide what a search finds, in
 -- either round; where the rounds differ all the same, the first has no admissible path and what hits is in force in both.
 use mathlib.Core.Path.{◌≡◌, refl, sym, subst, ap, ◌∙◌}
-use mathlib.Core.Logic.{◌⊎◌, inl, inr, ⊎_elim}
-use mathlib.Core.Bool.{Bool, true, false, not, ◌&&◌, ◌||◌, and_comm, false≢true}
-use mathlib.Core.List.{List, [], ◌∷◌, ◌++◌, map, Memᴰ}
+use mathlib.Core.Logic.{◌⊎◌, ⊎_elim}
+use mathlib.Core.Bool.{Bool, true, false, not, ◌&&◌, ◌||◌, and_comm}
+use mathlib.Core.List.{List, ◌++◌, map, Memᴰ}
 use Prim.Native.Nat.{ℕ, ◌<◌}
 use native.Mathlib.Omega.{arith}
 use lib.ListN.{length}
 use Rattle.model.specs.declared.Domain.{Domain}
-use Rattle.model.specs.declared.Hop.{Hop}
 use Rattle.model.specs.declared.Round.{Round}
 use Rattle.model.specs.declared.Round.TheVariants.{First, Second}
 use Rattle.model.specs.declared.ListKind.TheVariants.{Exclude}
 use Rattle.model.specs.declared.Verdict.TheVariants.{Pass}
-use Rattle.model.specs.Lists.{any, each, keep, is_empty}
+use Rattle.model.specs.Lists.{any, each, keep}
 use Rattle.model.specs.Profile.{domains, hops}
 use Rattle.model.specs.Subobject.{Subobject, form_verdict, subobjects, carried}
 use Rattle.model.specs.Sequence.{Stop}
 use Rattle.model.specs.Exclusion.{in_force, some_desired}
 use Rattle.model.specs.Request.{Request, layout_for, reading_input, all_exclusions, Accepted, search_in}
-use Rattle.model.specs.Path.{admissible, cheapest, shortest_paths}
-use Rattle.model.specs.Rounds.{round_if, round_of, search_of}
 use Rattle.model.specs.Calls.{build_tree}
 use Rattle.laws.proofs.Tests.{or_neither}
 use Rattle.laws.proofs.Lists.{keep_mem, keep_agree, keep_all, any_append, any_false, map_agree, map_mem, mem_each}
@@ -29,7 +26,6 @@ use Rattle.laws.proofs.Records.{length-domains}
 use Rattle.laws.proofs.RoundExact.{counts_in}
 use Rattle.laws.proofs.AcceptedRequest.{accepted-verdict, accepted-meaning, passed-request, accepted-length}
 use Rattle.laws.proofs.SequenceDomains.{meaning-inside}
-use Rattle.laws.proofs.Cheapest.{cheapest_nil}
 use Rattle.laws.proofs.JoinedLists.{Inserted, inserted-lacking, inserted-clear}
 use Rattle.laws.proofs.SameAnswers.{SameAnswers, SameEntries, SameRound, same-answers, same_entries, same-tree}
 use Rattle.laws.proofs.SameRounds.{same-round}

@@ -20,28 +20,7 @@ use Rattle.laws.proofs.Picks.{keep-keep}
 use Rattle.laws.proofs.Ranges.{mem_place}
 use Rattle.laws.proofs.PathsAreThePaths.{length_legs}
 use Rattle.laws.proofs.TreeLeast.{entry_of, entry-is}
-
--- the same search over other hops
-abbrev pub over_hops : Search → List Hop → Search
-over_hops S hs =
-    record {
-      domains = S.domains;
-      hops = hs;
-      sequence = S.sequence;
-      exclusions = S.exclusions;
-      stretches = S.stretches;
-      source = S.source;
-      destination = S.destination;
-      limits = S.limits;
-    }
-
--- the hop records of a leg
-abbrev pub records_of : Leg → List Hop → List Hop
-records_of leg hs = keep (between leg.from leg.to) hs
-
--- every leg from place j on has the same hop records
-abbrev pub SameFrom : Search → List Hop → ℕ → Type 0
-SameFrom S hs j = (i : ℕ) → j ≤ i → i < length S.sequence → records_of (leg_at S i) hs ≡ records_of (leg_at S i) S.hops
+pub use Rattle.laws.proofs.SameLegs.{over_hops, records_of, SameFrom}
 
 module _ (S : Search) (hs : List Hop) where
   place_same : (b : Bool) (i a : ℕ) → place_allows b (over_hops S hs) i a ≡ place_allows b S i a

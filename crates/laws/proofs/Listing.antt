@@ -25,11 +25,7 @@ use Rattle.laws.proofs.ShortestPathsExact.{shortest_paths_exact, shortest_path}
 use Rattle.laws.proofs.Reach.{least_from-reachable}
 use Rattle.laws.proofs.Cheapest.{cheapest_some}
 use Rattle.laws.proofs.RoundExact.{NoneAdmissible, AllClear, counts_in, RoundExact, round_exact}
-
--- a path is listed: it is admissible, and every admissible path has at least its total
-pub record Listed (S : Search) (p : List ℕ) : Type 0 where
-  pub admissible : Admissible S p
-  pub least : (q : List ℕ) → Admissible S q → total S p ≤ total S q
+pub use Rattle.laws.proofs.Listed.{Listed}
 
 pub record Listing (S : Search) : Type 0 where
   -- the listing has exactly those

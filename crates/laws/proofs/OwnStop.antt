@@ -5,53 +5,32 @@ use mathlib.Core.Logic.{◌⊎◌, ⊎_elim}
 use mathlib.Core.Bool.{Bool, true, false, not, ◌&&◌, ◌||◌}
 use mathlib.Core.List.{List, [], ◌∷◌, ◌++◌, map, Memᴰ}
 use mathlib.Core.Option.{Option}
-use Prim.Native.Nat.{ℕ, zero, suc, ◌<◌}
+use Prim.Native.Nat.{ℕ, zero, suc}
 use lib.ListN.{length, get_or, length-map, get_or-map}
 use lib.Dec.{ltb}
-use Rattle.model.specs.declared.Domain.{Domain}
 use Rattle.model.specs.declared.Round.{Round}
 use Rattle.model.specs.declared.Round.TheVariants.{First}
 use Rattle.model.specs.Lists.{any, each, keep}
 use Rattle.model.specs.Along.{places_along}
 use Rattle.model.specs.Profile.{domains}
 use Rattle.model.specs.Subobject.{Subobject, subobjects, carried}
-use Rattle.model.specs.Sequence.{Stop, domain_of, domains_of}
+use Rattle.model.specs.Sequence.{Stop, domain_of}
 use Rattle.model.specs.Exclusion.{in_force, some_desired, takes_domain, takes_node, excluded_domain, excluded_node}
 use Rattle.model.specs.Request.{Request, all_exclusions, Accepted, Search, search_in}
-use Rattle.model.specs.Path.{no_stop, stop_at, keeps_pin, exclusions_at, place_allows, allowed}
+use Rattle.model.specs.Path.{no_stop, keeps_pin, exclusions_at, place_allows, allowed}
 use Rattle.model.specs.Tree.{entries_at}
 use Rattle.model.specs.Calls.{build_tree}
 use Rattle.laws.proofs.Tests.{or_neither}
 use Rattle.laws.proofs.Lists.{keep_all, keep_none, any_append, any_false, map_mem}
 use Rattle.laws.proofs.RoundExact.{counts_in, own-exclusions}
 use Rattle.laws.proofs.AcceptedRequest.{accepted-length}
-use Rattle.laws.proofs.Hits.{hits, unplaced, hitting, domain_alike, node_alike, excluding, SameFound, same-found}
+use Rattle.laws.proofs.Hits.{hits, unplaced, hitting, domain_alike, node_alike, SameFound, same-found}
 use Rattle.laws.proofs.SameAnswers.{SameAnswers, SameEntries, SameRound, same-answers, same_entries, same-tree}
 use Rattle.laws.proofs.SameRounds.{same-round}
 use Rattle.laws.proofs.Lacking.{hitting_in_force, clear_in_force, clear_counts, both-clear}
+pub use Rattle.laws.proofs.SameButOwn.{exrs_at, own_hits, SameButOwn}
 
 -- ---- requests that differ in EXRS
-
--- the bytes of the EXRS at a place of a sequence
-abbrev exrs_at : List Stop → ℕ → List ℕ
-exrs_at sequence i = (get_or sequence i no_stop).exrs
-
--- what such bytes take from the stop at a place: those of their exclusions that take its domain or one of its entry nodes
-abbrev pub own_hits : Request → List Stop → ℕ → List ℕ → List Subobject
-own_hits r sequence i exrs =
-    hitting (domain_of (domains r.profile) (get_or sequence i no_stop).domain ∷ []) (entries_at (search_in First r sequence) i) (carried exrs)
-
--- two requests differ in their include lists alone: these name the same domains with the same entry constraints, and at each the EXRS of both take the same from it
-pub record SameButOwn (r r' : Request) (sequence sequence' : List Stop) : Type 0 where
-  pub profile : r.profile ≡ r'.profile
-  pub ingress : r.ingress ≡ r'.ingress
-  pub source : r.source ≡ r'.source
-  pub destination : r.destination ≡ r'.destination
-  pub exclude : r.exclude ≡ r'.exclude
-  pub limits : r.limits ≡ r'.limits
-  pub domains : domains_of sequence ≡ domains_of sequence'
-  pub pins : (i : ℕ) → (get_or sequence i no_stop).pin ≡ (get_or sequence' i no_stop).pin
-  pub own : (i : ℕ) → own_hits r sequence i (exrs_at sequence i) ≡ own_hits r sequence i (exrs_at sequence' i)
 
 -- the request with another include list
 abbrev with_include : Request → List ℕ → Request

@@ -3,7 +3,7 @@
 use Prim.Native.Nat.{ℕ, zero, suc, ◌≤◌}
 use native.Mathlib.Omega.{arith}
 use mathlib.Core.Path.{◌≡◌, refl}
-use mathlib.Core.Logic.{◌⊎◌, inl, inr}
+use mathlib.Core.Logic.{inl, inr}
 use mathlib.Core.List.{List, [], ◌∷◌}
 use lib.ListN.{length, get_or, replicate}
 use lib.Dec.{eqb, ltb}
@@ -19,16 +19,12 @@ use Rattle.model.specs.Request.{Request, Search, sequence_of}
 use Rattle.model.specs.Path.{Route, shortest_paths}
 use Rattle.model.specs.Tree.{tree}
 use Rattle.model.specs.Rounds.{round_of, search_of}
-use Rattle.model.specs.Answers.{Numbers, plain4}
+use Rattle.model.specs.Answers.{plain4}
 use Rattle.model.specs.Calls.{Outcome, profile_numbers, check_profile, room_verdict, answer_read, read_into, reading_of, read_include, answer_write, write_list, answer_tree, tree_into, build_tree, first_of, answer_path, path_length, first_into, first, greater_than, next_into, next, all_exrs}
 use Rattle.laws.proofs.RefusalNumbers.{Numbered, Refusing, test, both, more, profile_refusing, Reads, sequence_reads, reading_reads}
+pub use Rattle.laws.proofs.QuietNumbers.{QuietNumbers}
 
 -- ---- what is said of an answer
-
-pub record QuietNumbers (most : ℕ) (n : Numbers) : Type 0 where
-  pub known : (n.answer ≤ 2) ⊎ ((10 ≤ n.answer) × (n.answer ≤ most))
-  pub others : (n.answer ≡ 0 → ⊥) → (i : ℕ) → get_or n.others (suc i) 0 ≡ 0
-  pub place : n.answer ≤ 2 → get_or n.others 0 0 ≡ 0
 
 pub record Quiet {A : Type 0} (most : ℕ) (o : Outcome A) : Type 0 where
   pub numbers : QuietNumbers most o.numbers

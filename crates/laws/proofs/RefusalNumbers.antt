@@ -18,7 +18,7 @@ use Rattle.model.specs.declared.Verdict.TheVariants.{Pass, Refuse}
 use Rattle.model.specs.Lists.{among}
 use Rattle.model.specs.Verdict.{refuse_if, ◌and_then◌, in_turn}
 use Rattle.model.specs.Along.{checked_along}
-use Rattle.model.specs.Profile.{Layout, class_of, domain_count, hop_count, header_wrong, counts_wrong, length_wrong, header_verdict, domain_at, domains, domain_malformed, domain_misordered, domain_verdict, hop_at, hop_malformed, hop_misordered, hop_verdict, crowded, crowded_verdict, profile_verdict, layout_in}
+use Rattle.model.specs.Profile.{Layout, class_of, domain_count, hop_count, header_wrong, counts_wrong, length_wrong, header_verdict, domain_at, domain_malformed, domain_misordered, domain_verdict, hop_at, hop_malformed, hop_misordered, hop_verdict, crowded, crowded_verdict, profile_verdict, layout_in}
 use Rattle.model.specs.Reserved.{as_ranges, address_ranges, misplaced}
 use Rattle.model.specs.Floats.{in_range}
 use Rattle.model.specs.Subobject.{Named, prefix, system, area, stretch, Subobject, known, length_fits, top_at, type_at, area_length_at, top_wrong, length_at, field_wrong, plain_verdict, carried_verdict, carried_if, subobject_verdict, form_verdict, subobjects, after_subobject}

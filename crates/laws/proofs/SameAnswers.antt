@@ -5,7 +5,7 @@ use mathlib.Core.Logic.{◌⊎◌, ⊎_elim}
 use mathlib.Core.Bool.{Bool, true, false, not}
 use mathlib.Core.List.{List, [], ◌∷◌}
 use Prim.Native.Nat.{ℕ, suc}
-use lib.ListN.{length, get_or}
+use lib.ListN.{length}
 use lib.Dec.{eqb, ltb}
 use Rattle.model.specs.declared.Round.{Round}
 use Rattle.model.specs.declared.TreeEntry.{TreeEntry}
@@ -17,13 +17,14 @@ use Rattle.model.specs.Sequence.{Stop, Reading}
 use Rattle.model.specs.Exclusion.{some_desired}
 use Rattle.model.specs.Request.{Request, Accepted, Search, all_exclusions}
 use Rattle.model.specs.Path.{Route, shortest_paths}
-use Rattle.model.specs.Tree.{tree, tally}
+use Rattle.model.specs.Tree.{tree}
 use Rattle.model.specs.Rounds.{round_of, search_of, over_rounds}
-use Rattle.model.specs.Calls.{Outcome, nothing, answer_path, answer_tree, room_verdict, build_tree, first, next, next_into, path_length, greater_than}
+use Rattle.model.specs.Calls.{nothing, answer_path, answer_tree, room_verdict, build_tree, first, next, next_into, path_length, greater_than}
 use Rattle.model.specs.Answers.{Numbers, plain4, done4}
 use Rattle.model.specs.Series.{Kind, first_call, next_call, Call, Reply, reply_to, Entry, unchanged, refusal, book_first, book_entry, book, replies, replies_by}
 use Rattle.laws.proofs.FirstNextExact.{first_accepted}
 use Rattle.laws.proofs.Hits.{SameFound}
+pub use Rattle.laws.proofs.SameEntries.{SameEntries}
 
 -- ---- what is said of two requests
 
@@ -32,14 +33,6 @@ pub record SameAnswers (r r' : Request) : Type 0 where
   pub first : (room : ℕ) → first r room ≡ first r' room
   pub next : (given : List ℕ) (room : ℕ) → next r given room ≡ next r' given room
   pub replies : (calls : List Call) → replies r calls ≡ replies r' calls
-
--- two answers of tree are the same but for tally and round, the last two of their four numbers
-pub record SameEntries (o o' : Outcome TreeEntry) : Type 0 where
-  pub answer : o.numbers.answer ≡ o'.numbers.answer
-  pub place : get_or o.numbers.others 0 0 ≡ get_or o'.numbers.others 0 0
-  pub entries : get_or o.numbers.others 1 0 ≡ get_or o'.numbers.others 1 0
-  pub written : o.written ≡ o'.written
-  pub many : length o.numbers.others ≡ length o'.numbers.others
 
 -- two requests with their sequences: what is found in the rounds that apply is the same; the rounds are the same or there is no path, and the same where X set
 -- comes up among all exclusions of both or of neither

@@ -3,7 +3,7 @@
 use mathlib.Core.Path.{◌≡◌, refl, sym, subst, ◌∙◌, ap}
 use mathlib.Core.Bool.{Bool, true, false}
 use mathlib.Core.List.{List, [], ◌∷◌, map, Memᴰ}
-use Prim.Native.Nat.{ℕ, suc, ◌≤◌, ◌<◌}
+use Prim.Native.Nat.{ℕ, suc, ◌<◌}
 use native.Mathlib.Omega.{arith}
 use lib.ListN.{length, drop}
 use lib.Seq.{drop-cons, drop-length}
@@ -17,17 +17,9 @@ use Rattle.laws.proofs.Lists.{map_mem, mem-map, each_mem, mem_each, count_from_m
 use Rattle.laws.proofs.PathsAreThePaths.{length_legs}
 use Rattle.laws.specs.Reach.{Reach, unreached, arrived, least_from, reach_if, via, best_from, reach_from}
 use Rattle.laws.proofs.Reach.{least_from_nil, least_from_one, least_from-reachable, least_from-unreached, least_from_some, least_from_at_most, least_from-extended, least_from_each, best_from_agree}
+pub use Rattle.laws.proofs.LeastEntry.{LeastEntry}
 
 -- ---- the entries
-
--- what an entry of the tree says: its place and node, and that it is reachable exactly when there is a suffix, at the cost of some and at most that of each
-pub record LeastEntry (S : Search) (e : TreeEntry) : Type 0 where
-  pub place : e.level < length S.sequence
-  pub node : Memᴰ e.address.0 (entries_at S e.level)
-  pub reachable_by : (r : Route) → Memᴰ r (suffixes_at S e.level e.address.0) → e.reachable ≡ true
-  pub cost_of_some : e.reachable ≡ true → (r : Route) × Memᴰ r (suffixes_at S e.level e.address.0) × (r.total ≡ e.cost)
-  pub cost_at_most : (r : Route) → Memᴰ r (suffixes_at S e.level e.address.0) → e.cost ≤ r.total
-  pub cost-unreachable : e.reachable ≡ false → e.cost ≡ 0
 
 -- the reach at an entry
 abbrev pub entry_of : ℕ → ℕ → Reach → TreeEntry

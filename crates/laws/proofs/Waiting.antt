@@ -1,13 +1,13 @@
 -- Stretches of an include list, whole subobjects of right form, one behind the other: what waits in them, and what their EXRS carry.
 use Prim.Native.Nat.{ℕ, ◌≤◌}
 use native.Mathlib.Omega.{arith}
-use mathlib.Core.Path.{◌≡◌, refl, sym, ap, ap₂, ◌∙◌}
+use mathlib.Core.Path.{◌≡◌, refl, ap, ap₂, ◌∙◌}
 use mathlib.Core.List.{List, [], ◌∷◌, ◌++◌, append-nil}
 use lib.ListN.{length}
 use Rattle.model.specs.declared.ListKind.TheVariants.{Include}
 use Rattle.model.specs.declared.Verdict.TheVariants.{Pass}
 use Rattle.model.specs.Lists.{each}
-use Rattle.model.specs.Subobject.{Named, prefix, system, area, stretch, Subobject, subobject_verdict, subobject_at, named_at, after_subobject, form_from, subobjects_from, inside_of}
+use Rattle.model.specs.Subobject.{Named, prefix, system, area, stretch, Subobject, subobject_verdict, named_at, after_subobject, form_from, subobjects_from, inside_of}
 use Rattle.model.specs.Sequence.{Waiting, bytes_in, exrs_of}
 use Rattle.laws.specs.Exrs.{bytes_named, exrs_in, carried_in, waits_as, waiting_in, Stretch}
 use Rattle.laws.proofs.Lists.{each_append}

@@ -11,8 +11,11 @@ pub mod WrittenPcrep
 pub mod PcrepFits
 pub mod PcrepBytes
 pub mod PcrepObjects
+pub mod GivenFields
 pub mod PcrepReadsBack
 pub mod MetricsJudged
+pub mod CarriedVerdict
+pub mod GivenRequest
 pub mod PcreqIsRequest
 pub mod QuietMessages
 pub mod Demands

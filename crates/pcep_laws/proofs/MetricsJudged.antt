@@ -8,19 +8,15 @@ use mathlib.Core.List.{List, [], ◌∷◌}
 use lib.ListN.{length}
 use lib.Dec.{eqb, ltb}
 use borrow.Author.Tests.{ltb-true, ltb-false, lt-leb, le-leb, eqb-true}
-use Rattle.model.specs.declared.Verdict.{Verdict}
-use Rattle.model.specs.declared.Verdict.TheVariants.{Pass}
 use Rattle.model.specs.Verdict.{refuse_if, ◌and_then◌}
 use Rattle.model.specs.Floats.{in_range, float_of_bits}
-use Rattle.model.specs.Profile.{verdict_on}
-use Rattle.model.specs.Request.{ingress_verdict, limits_verdict, request_verdict, sizes_verdict, forms_verdict, request_verdict_with}
+use Rattle.model.specs.Request.{limits_verdict}
 use Rattle.laws.proofs.Tests.{and_both, and-false}
-use Rattle.laws.proofs.Turns.{and_then-nothing}
 use Rattle.laws.proofs.Bits.{bits_in_range}
 use Rattle.model.specs.Along.{places_along, or_else, first_of}
 use Rattle.pcep_model.specs.Objects.{METRIC, is_object, after_object, objects_in}
 use Rattle.pcep_model.specs.Metrics.{flags_at, value_at, out_of_range, wrong_metric, bound_metric}
-use Rattle.pcep_model.specs.Pcreq.{bits_at, bandwidth_of, include_extent, exclude_extent, list_in, floats_verdict, judged_metric, carried_limits, carried}
+use Rattle.pcep_model.specs.Pcreq.{bits_at, bandwidth_of, floats_verdict, judged_metric, carried_limits}
 use Rattle.laws.proofs.InARow.{Each}
 
 -- ---- the first of some places that passes a test
@@ -124,30 +120,3 @@ module _ (s : List ℕ) where
       let at = judged_metric s in
       ap₂ (λ (a b : Bool). refuse_if a 21 0 and_then refuse_if b 21 1) (bits_out (bandwidth_of s))
       (ap (λ (b : Bool). not (eqb at 0) && b) (bits_out (bits_at at (value_at s at))) ∙ judged (eqb (wrong_metric s) 0) refl)
-
--- the checks of the request that a PCReq carries, in document 01's order, with those of a reply beside it and alone
-module _ (profile : List ℕ) (ingress : ℕ) (s : List ℕ) where
-  abbrev include : List ℕ
-  include = list_in s (include_extent s)
-
-  abbrev exclude : List ℕ
-  exclude = list_in s (exclude_extent s)
-
-  abbrev begin : Verdict → Verdict
-  begin floats = verdict_on profile and_then ingress_verdict profile ingress and_then floats
-
-  pub carried_with : (metrics ero : Verdict) → request_verdict_with metrics ero (carried profile ingress s) ≡ begin (floats_verdict s) and_then metrics and_then sizes_verdict include exclude and_then forms_verdict include exclude and_then ero
-  carried_with metrics ero = ap (λ (v : Verdict). begin v and_then metrics and_then sizes_verdict include exclude and_then forms_verdict include exclude and_then ero) (metrics_judged s)
-
-  pub carried-verdict
-      : request_verdict (carried profile ingress s)
-      ≡ verdict_on profile
-      and_then ingress_verdict profile ingress
-      and_then floats_verdict s
-      and_then sizes_verdict include exclude
-      and_then forms_verdict include exclude
-  unfolding request_verdict
-  carried-verdict =
-      carried_with Pass Pass
-      ∙ and_then-nothing (begin (floats_verdict s) and_then Pass and_then sizes_verdict include exclude and_then forms_verdict include exclude)
-      ∙ ap (λ (v : Verdict). v and_then sizes_verdict include exclude and_then forms_verdict include exclude) (and_then-nothing (begin (floats_verdict s)))

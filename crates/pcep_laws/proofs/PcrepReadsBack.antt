@@ -18,7 +18,6 @@ use Rattle.model.specs.Calls.{room_verdict}
 use Rattle.laws.proofs.Numbers.{number_shift, number-bytes_of}
 use Rattle.laws.proofs.Turns.{and_then_pass}
 use Rattle.pcep_model.specs.declared.MessageKind.TheVariants.{Pcrep}
-use Rattle.pcep_model.specs.declared.PcrepFields.{PcrepFields}
 use Rattle.pcep_model.specs.declared.PcrepAnswer.TheVariants as Answer
 use Rattle.pcep_model.specs.Objects.{size_at, message_verdict}
 use Rattle.pcep_model.specs.Metrics.{metrics, wrong_metric}
@@ -30,25 +29,9 @@ use Rattle.pcep_laws.proofs.WrittenEro.{Word, each_word, ero-passes, ero-read}
 use Rattle.pcep_laws.proofs.WrittenPcrep.{rp_object, route_object, written_message, objects-right}
 use Rattle.pcep_laws.proofs.PcrepFits.{Fits, Writes, writes}
 use Rattle.pcep_laws.proofs.PcrepObjects.{sent, rp_stands, route_stands, rp_first, ero_first, no_path_first, message_passes, metrics-read, none_out_of_range}
+pub use Rattle.pcep_laws.proofs.GivenFields.{given_addresses, given_fields}
 
 -- ---- what was given, as reading gives it back
-
--- the addresses of a path alone
-abbrev pub given_addresses : Reply → List ℕ
-given_addresses r = cond r.found r.addresses []
-
--- RP's flags without the unassigned ones, a NO-PATH's fields beside no path alone
-abbrev pub given_fields : Reply → PcrepFields
-given_fields r =
-    record {
-      id = r.request_id;
-      flags = r.rp_flags % 64;
-      found = r.found;
-      nature = cond r.found 0 r.nature;
-      c = not r.found && r.c_flag;
-      addresses = length (given_addresses r);
-      metrics = length r.metrics;
-    }
 
 -- ---- RP's fields, where it stands
 

@@ -6,7 +6,6 @@ use mathlib.Core.Bool.{not, cond}
 use mathlib.Core.List.{List, [], ◌∷◌, map}
 use lib.ListN.{length}
 use lib.Dec.{eqb}
-use Rattle.model.specs.declared.Limits.{Limits}
 use Rattle.model.specs.declared.Refusal.{Refusal}
 use Rattle.model.specs.declared.Verdict.{Verdict}
 use Rattle.model.specs.declared.Verdict.TheVariants.{Pass, Refuse}
@@ -22,23 +21,9 @@ use Rattle.pcep_model.specs.declared.MessageKind.TheVariants.{Pcreq}
 use Rattle.pcep_model.specs.Objects.{message_verdict}
 use Rattle.pcep_model.specs.Metrics.{value_at, wrong_metric, bound_metric}
 use Rattle.pcep_model.specs.Pcreq.{source_of, destination_of, bits_at, bandwidth_of, include_extent, exclude_extent, list_in, carried_limits, carried, behind, pcreq_tree, pcreq_first, pcreq_next, pcreq_call, pcreq_run}
+pub use Rattle.pcep_laws.proofs.GivenRequest.{given_limits, given_request}
 
 -- ---- the request that a PCReq stands for where no METRIC is out of range: the bound is the first METRIC with B set
-
-abbrev pub given_limits : List ℕ → Limits
-given_limits s = limits_of_bits (bandwidth_of s) (not (eqb (bound_metric s) 0)) (bits_at (bound_metric s) (value_at s (bound_metric s)))
-
-abbrev pub given_request : List ℕ → ℕ → List ℕ → Request
-given_request profile ingress s =
-    record {
-      profile = profile;
-      ingress = ingress;
-      source = source_of s;
-      destination = destination_of s;
-      include = list_in s (include_extent s);
-      exclude = list_in s (exclude_extent s);
-      limits = given_limits s;
-    }
 
 -- it is the one that is carried then
 limits-given : (s : List ℕ) → wrong_metric s ≡ 0 → carried_limits s ≡ given_limits s
