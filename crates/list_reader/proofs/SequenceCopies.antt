@@ -9,7 +9,7 @@ use lib.ListN.{length, get_or, drop, set, length-map, length-append, get_or-map}
 use lib.Seq.{take_all}
 use Rattle.model.specs.Lists.{over}
 use Rattle.model.specs.Sequence.{Stop}
-use Rattle.model.specs.Calls.{all_exrs}
+use Rattle.model.specs.Calls.{all_exrs, pin_mark, pin_node}
 use Rattle.model.specs.Path.{no_stop}
 use Rattle.laws.specs.Exrs.{exrs_in, Stretch}
 use Rattle.laws.specs.Stops.{stretch_start}
@@ -21,6 +21,19 @@ use Rattle.list_include.proofs.States.{length-stops}
 use Rattle.buffers.specs.Placed.{Put}
 use Rattle.buffers.proofs.Places.{nothing_put}
 use Rattle.buffers.proofs.Copies.{Copied, copied_long, copied_more}
+
+-- what goes into the buffers of each stop
+abbrev pub domain : Stop → ℕ
+domain p = p.domain
+
+abbrev pub mark : Stop → ℕ
+mark p = pin_mark p.pin
+
+abbrev pub node : Stop → ℕ
+node p = pin_node p.pin
+
+abbrev pub size : Stop → ℕ
+size p = length p.exrs
 
 module _ (list : List ℕ) (st : State) where
   stop-there : (i : ℕ) → i < st.count → get_or (state_stops list st) i no_stop ≡ state_stop list st i

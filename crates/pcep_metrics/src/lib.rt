@@ -67,7 +67,7 @@ pub fn judge(message: &[u8]) -> MetricScan
     while at < message.len() {
         count += 1;
         bound = noted(message[at + 6] % 2 == 1, bound, at);
-        wrong = noted(0x7_f800000 <= u32_at(message, at + 8), wrong, at);
+        wrong = noted(0x7F800000 <= u32_at(message, at + 8), wrong, at);
         at = next_metric(message, at + 12);
     }
     MetricScan {

@@ -42,7 +42,7 @@ fn message_length(found: bool, addresses: usize, metrics: usize) -> usize
     whole
 }
 
-// A METRIC's value is out of range: its bits are 0x7_f800000 or more.
+// A METRIC's value is out of range: its bits are 0x7F800000 or more.
 fn out_of_range(values: &[u32]) -> bool
     ensures { result ≡ any out_of_range values.now }
 {

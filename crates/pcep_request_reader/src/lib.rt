@@ -23,7 +23,7 @@ pub mod fields;
 fn floats_verdict(bandwidth: u32, wrong: bool) -> Verdict
     ensures { result ≡ floats_by bandwidth wrong }
 {
-    if 0x7_f800000 <= bandwidth {
+    if 0x7F800000 <= bandwidth {
         return refuse(21, 0);
     }
     if wrong {

@@ -32,7 +32,7 @@ fn hop_malformed(s: &[u8], layout: Layout, i: usize) -> bool
         | (domains <= pair % 65536)
         | (layout.most_cost < cost)
         | (layout.most_cost < other)
-        | (0x7_f800000 <= bits)
+        | (0x7F800000 <= bits)
 }
 
 // Not above the record before it by the first 12 bytes.

@@ -40,7 +40,7 @@ fn goes_on(
         & (before < head)
         & (cost <= layout.most_cost)
         & (other <= layout.most_cost)
-        & (bits < 0x7_f800000)
+        & (bits < 0x7F800000)
         & !misplaced
 }
 

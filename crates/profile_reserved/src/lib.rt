@@ -26,16 +26,16 @@ const RESERVED: [Range; 5] = [
         last: 65551,
     },
     Range {
-        first: 0x_c0000200,
-        last: 0x_c00002_fF,
+        first: 0xC0000200,
+        last: 0xC00002FF,
     },
     Range {
-        first: 0x_c6336400,
-        last: 0x_c63364_fF,
+        first: 0xC6336400,
+        last: 0xC63364FF,
     },
     Range {
-        first: 0x_cB007100,
-        last: 0x_cB0071_fF,
+        first: 0xCB007100,
+        last: 0xCB0071FF,
     },
 ];
 

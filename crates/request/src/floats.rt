@@ -14,7 +14,7 @@ fn in_range(x: f32) -> bool
     if x != x {
         return false;
     }
-    f32::to_bits(x) < 0x7_f800000
+    f32::to_bits(x) < 0x7F800000
 }
 
 // The bandwidth, and the bound where it counts.
@@ -36,8 +36,8 @@ pub fn limits_verdict(limits: Limits) -> Verdict
 pub fn float_of(bits: u32) -> f32
     ensures { result ≡ float_of_bits bits }
 {
-    if bits < 0x7_f800000 {
+    if bits < 0x7F800000 {
         return f32::from_bits(bits);
     }
-    f32::from_bits(0x7_f800000)
+    f32::from_bits(0x7F800000)
 }

@@ -1,10 +1,10 @@
 -- All EXRS of a query's domains stand in one stretch of the include list, up to the subobject that named the last of them: one domain's behind the other's. By recursion
 -- over the domains.
-use Prim.Native.Nat.{ℕ, zero, suc, ◌+◌, ◌-◌, ◌≤◌, ◌<◌}
+use Prim.Native.Nat.{ℕ, zero, suc, ◌+◌, ◌-◌, ◌<◌}
 use native.Mathlib.Nat.{add-zero, zero-add}
 use native.Mathlib.Omega.{arith}
 use mathlib.Core.Path.{◌≡◌, sym, ap, ap₂, subst, ◌∙◌}
-use mathlib.Core.List.{List, [], ◌∷◌, ◌++◌, append-nil, map}
+use mathlib.Core.List.{List, ◌++◌, append-nil, map}
 use lib.ListN.{get_or}
 use Rattle.model.specs.Lists.{count_from, each}
 use Rattle.model.specs.Profile.{Layout}
