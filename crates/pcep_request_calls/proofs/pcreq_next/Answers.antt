@@ -11,7 +11,6 @@ use Rattle.pcep_model.specs.Pcreq.{pcreq_next, carried}
 use Rattle.pcep_request_reader.specs.Carried.{CarriedRequestIs, CarriedIs}
 use Rattle.pcep_request_calls.specs.Through.{PathIn}
 use Rattle.pcep_request_calls.proofs.Through.{behind-passed, path_refused, same-request}
-use borrow.Author.Rules.{rules}
 use Rattle.pcep_request_calls.proofs.pcreq_next.Goals as goal
 use Rattle.pcep_request_calls.proofs.pcreq_next.Goals.{In-Request}
 

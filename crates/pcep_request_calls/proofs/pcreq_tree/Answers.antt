@@ -10,7 +10,6 @@ use Rattle.pcep_model.specs.Objects.{message_verdict}
 use Rattle.pcep_model.specs.Pcreq.{pcreq_tree, carried}
 use Rattle.pcep_request_reader.specs.Carried.{CarriedRequestIs, CarriedIs}
 use Rattle.pcep_request_calls.proofs.Through.{behind-passed, tree-refused, same-request}
-use borrow.Author.Rules.{rules}
 use Rattle.pcep_request_calls.proofs.pcreq_tree.Goals as goal
 use Rattle.pcep_request_calls.proofs.pcreq_tree.Goals.{In-Request}
 
