@@ -12,8 +12,7 @@ use Rattle.model.specs.Series.{call_outcome}
 use Rattle.path_answers.specs.declared.PathReply.{PathReply}
 use Rattle.path_answers.specs.PathReply.{ReplyIs}
 use Rattle.path_series.specs.Calls.{kind_of}
-use Rattle.path_series.proofs.calls.call.Statement.{statement}
-use Rattle.path_series.proofs.calls.call.Tie as tie
+use Rattle.path_series.proofs.calls.call.Goals as goal
 
 -- the kind's call is the one made
 module _ (r : Request) (last : List ℕ) (room : ℕ) (R : PathReply) where
@@ -25,33 +24,16 @@ module _ (r : Request) (last : List ℕ) (room : ℕ) (R : PathReply) where
   next_made zero e by = absurd (e refl)
   next_made (suc k) e by = by
 
-first-route-requires : tie.Need-first-route-requires
-first-route-requires c κs = search rules
+pub returns-then-kind-eq0 : goal.returns-then-kind-eq0
+returns-then-kind-eq0 c = first_made _ _ _ _ _ c.if-kind-eq0.true c.first_route.ensures
 
-returns : tie.Need-returns
-returns c = first_made _ _ _ _ _ c.before.if1.true c.first-route.ensures
-
-array-share-prefix-path : tie.Need-array-share-prefix-path
-array-share-prefix-path c =
-    let long : length c.before.before.before.before.before.args.last.path ≡ 17 = search rules in
+pub slice_bounds-path-end : goal.slice_bounds-path-end
+slice_bounds-path-end c =
+    let long : length c.args.last.path ≡ 17 = search rules in
     omega arith
 
-slice-aggregate-next-route : tie.Need-slice-aggregate-next-route
-slice-aggregate-next-route c = sym (length-take-le _ _ (array-share-prefix-path c.before))
+pub slice_bounds-next_route-end : goal.slice_bounds-next_route-end
+slice_bounds-next_route-end c = let long : length c.args.last.path ≡ 17 = search rules in sym (length-take-le _ _ (omega arith))
 
-next-route-requires : tie.Need-next-route-requires
-next-route-requires c κs = search rules
-
-returns-2 : tie.Need-returns-2
-returns-2 c = next_made _ _ _ _ _ c.before.before.before.if1.false c.next-route.ensures
-
-pub call-spec : {M : Type 1} → statement M
-call-spec =
-    tie.close
-    (tie.spec
-    first-route-requires
-    returns
-    array-share-prefix-path
-    slice-aggregate-next-route
-    next-route-requires
-    returns-2)
+pub returns : goal.returns
+returns c = next_made _ _ _ _ _ c.if-kind-eq0.false c.next_route.ensures

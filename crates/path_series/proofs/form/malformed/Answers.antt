@@ -1,0 +1,24 @@
+-- `path_series::form::malformed` meets its contract: the four tests of the definition, in its order.
+use mathlib.Core.Path.{sym, ◌∙◌}
+use Rattle.path_series.proofs.Forms.{by_kind, by_counts, by_sums, by_numbers}
+use Rattle.path_series.proofs.form.malformed.Goals as goal
+
+pub returns-then-unknown_kind : goal.returns-then-unknown_kind
+returns-then-unknown_kind c =
+    let a = c.args in
+    sym (by_kind a.kinds.now a.sizes.now a.buffers a.numbers (sym c.unknown_kind.ensures ∙ c.if-unknown_kind.true))
+
+pub returns-then-kinds-sizes : goal.returns-then-kinds-sizes
+returns-then-kinds-sizes c =
+    let a = c.args in
+    sym (by_counts a.kinds.now a.sizes.now a.buffers a.numbers c.if-kinds-sizes.true)
+
+pub returns-then-not-adds_up : goal.returns-then-not-adds_up
+returns-then-not-adds_up c =
+    let a = c.args in
+    sym (by_sums a.kinds.now a.sizes.now a.buffers a.numbers (sym c.adds_up.ensures ∙ c.if-not-adds_up.true))
+
+pub returns : goal.returns
+returns c =
+    let a = c.args in
+    sym (by_numbers a.kinds.now a.sizes.now a.buffers a.numbers (sym c.unknown_kind.ensures ∙ c.if-unknown_kind.false) c.if-kinds-sizes.false (sym c.adds_up.ensures ∙ c.if-not-adds_up.false))
