@@ -1,6 +1,6 @@
 /*
  * Yachayniq, a path calculator for test profiles: the C interface of the
- * proved static library target/staticlib/libcalculator.a (x86-64).
+ * proved static library crates/calculator/out/libcalculator.a (x86-64).
  *
  * Every call returns a number that says how it went: 0 is done, 1 and 2 mean
  * no path and no further one, from 10 up the input is refused. The other

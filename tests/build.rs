@@ -1,10 +1,10 @@
 //! Links the proved static library: the archive that YQ_LIB names, else the
-//! one that `rt staticlib calculator` writes.
+//! one that `rt lib` leaves in crates/calculator.
 
 use std::env;
 use std::path::{Path, PathBuf};
 
-const BUILT: &str = "target/staticlib/libcalculator.a";
+const BUILT: &str = "crates/calculator/out/libcalculator.a";
 
 fn main() {
     println!("cargo::rerun-if-env-changed=YQ_LIB");

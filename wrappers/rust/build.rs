@@ -1,10 +1,10 @@
 //! Links the proved static library: the archive that YQ_LIB names, else the
-//! one that `rt staticlib calculator` writes.
+//! one that `rt lib` leaves in crates/calculator.
 
 use std::env;
 use std::path::{Path, PathBuf};
 
-const BUILT: &str = "target/staticlib/libcalculator.a";
+const BUILT: &str = "crates/calculator/out/libcalculator.a";
 
 fn main() {
     println!("cargo::rerun-if-env-changed=YQ_LIB");
@@ -23,7 +23,7 @@ fn main() {
         }
         _ => println!(
             "cargo::error=the proved library is missing: there is no {}. \
-             Run rt staticlib calculator at the top of the repository, which proves and \
+             Run rt lib in the repository's folder crates/calculator, which proves and \
              builds it, or set YQ_LIB to the whole path of a libNAME.a",
             archive.display()
         ),

@@ -1,4 +1,2 @@
 pub mod RoundTrip
 pub mod PcrepRoundTrip
-mod PathCalls
-mod Exported

@@ -12,7 +12,7 @@ use lib.Seq.{length-paste, take_at}
 use borrow.Author.Tests.{eq-eqb, ne_eqb}
 use Rattle.model.specs.declared.Round.{Round}
 use Rattle.model.specs.Lists.{is_empty, below, keep, over}
-use Rattle.model.specs.Profile.{Layout, cost_limit}
+use Rattle.model.specs.Profile.{Layout, hops, cost_limit}
 use Rattle.model.specs.Request.{Search}
 use Rattle.model.specs.Path.{legs, keeps_bound, Route, suffixes, admissible, cheapest, shortest_paths}
 use Rattle.model.specs.Calls.{greater_than}

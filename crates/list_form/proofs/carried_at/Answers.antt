@@ -51,7 +51,6 @@ refuse_at-requires c = omega (arith, (there (goal.at.refuse_at-requires c).Start
 
 pub returns-then-end-inside : goal.returns-then-end-inside
 returns-then-end-inside c =
-    let start = c in
     let a = c.args in
     let n = c.next_after-end.ensures in
     let e = c.if-end-inside.true in
@@ -62,13 +61,11 @@ returns-then-end-inside c =
 
 pub inside_form-requires : goal.inside_form-requires
 inside_form-requires c =
-    let start = c in
     let n = c.next_after-end.ensures in
     (omega (arith, long (goal.at.inside_form-requires c).Start), omega (arith, (there (goal.at.inside_form-requires c).Start).inside), c.requires.1)
 
 pub returns : goal.returns
 returns c =
-    let start = c in
     let a = c.args in
     let n = c.next_after-end.ensures in
     let e = c.if-end-inside.false in

@@ -7,13 +7,11 @@ use Rattle.list_form.proofs.exrs_head_wrong.Goals as goal
 
 pub returns-then-first-ge128 : goal.returns-then-first-ge128
 returns-then-first-ge128 c =
-    let start = c in
     let a = c.args in
     λ area. sym (ap (λ (k : ListKind). head_wrong k a.first a.n area) c.in-Include.is ∙ marked a.first a.n area c.requires c.if-first-ge128.true)
 
 pub returns-then-n-lt4 : goal.returns-then-n-lt4
 returns-then-n-lt4 c =
-    let start = c in
     let a = c.args in
     λ area.
     sym
@@ -22,13 +20,11 @@ returns-then-n-lt4 c =
 
 pub returns-in-Exclude : goal.returns-in-Exclude
 returns-in-Exclude c =
-    let start = c in
     let a = c.args in
     λ area. sym (ap (λ (k : ListKind). head_wrong k a.first a.n area) c.in-Exclude.is ∙ unknown a.first a.n area c.requires)
 
 pub returns-else-n-lt4 : goal.returns-else-n-lt4
 returns-else-n-lt4 c =
-    let start = c in
     let a = c.args in
     λ area.
     sym

@@ -44,13 +44,11 @@ u32_at-requires c =
 
 pub returns-then-t-eq5 : goal.returns-then-t-eq5
 returns-then-t-eq5 c =
-    let five = c in
     let a = c.args in
     c.as_nobodys.ensures ∙ ap nobodys c.u32_at.ensures ∙ field-5 a.kind a.list.now a.at c.if-t-eq5.true
 
 pub returns-then-t-eq32 : goal.returns-then-t-eq32
 returns-then-t-eq32 c =
-    let two = c in
     let a = c.args in
     c.as_nobodys-then-t-eq32.ensures ∙ ap nobodys c.u16_at.ensures ∙ field_32 a.kind a.list.now a.at c.if-t-eq32.true
 

@@ -33,7 +33,6 @@ returns-in-Refuse c =
 
 pub carried_at-requires : goal.carried_at-requires
 carried_at-requires c =
-    let start = c in
     let a = c.args in
     let s = a.list.now in
     (ap (λ (k : ListKind). plain_verdict k s (length s) a.at) (sym c.in-Include.is) ∙ sym c.plain_at-plain.ensures ∙ c.in_default.is, c.requires.1)

@@ -12,14 +12,12 @@ use Rattle.list_include.proofs.read_item.Goals as goal
 
 pub of_area-found-requires : goal.of_area-found-requires
 of_area-found-requires c =
-    let start = c in
     let a = c.args in
     (c.requires.sound_state.2, c.requires.sound_state.3, subst (BytesInside a.list.now) c.in-Area.is c.requires.item_here.0.there.there)
 
 pub returns-in-Prefix : goal.returns-in-Prefix
 unfolding M.read_one
 returns-in-Prefix c =
-    let start = c in
     let a = c.args in
     let s = a.list.now in
     let it = a.item in
@@ -31,7 +29,6 @@ returns-in-Prefix c =
 pub returns-in-System : goal.returns-in-System
 unfolding M.read_one
 returns-in-System c =
-    let start = c in
     let a = c.args in
     let s = a.list.now in
     let it = a.item in
@@ -43,7 +40,6 @@ returns-in-System c =
 pub returns-in-Area : goal.returns-in-Area
 unfolding M.read_one
 returns-in-Area c =
-    let start = c in
     let a = c.args in
     let s = a.list.now in
     let it = a.item in
@@ -58,7 +54,6 @@ returns-in-Area c =
 pub returns-in-Exrs : goal.returns-in-Exrs
 unfolding M.read_one
 returns-in-Exrs c =
-    let start = c in
     let a = c.args in
     let s = a.list.now in
     let it = a.item in

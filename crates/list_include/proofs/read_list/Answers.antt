@@ -89,9 +89,7 @@ read_item-stepped-requires c =
 pub returns-in-Refuse : goal.returns-in-Refuse
 returns-in-Refuse c =
     let a = c.args in
-    let turn = c in
     let l = c.loop-at in
-    let told = c in
     step-refused (Placed a.list.now) (state_stops a.list.now) _ _ _ c.refused.ensures
     (sym (meant (goal.at.returns-in-Refuse c).At-loop-at)
     ∙ read-refused (reading_input a.profile.now) a.list.now l.at (state_of a.list.now l.at l.st) c.loop-at-test.true l.invariant.2 _

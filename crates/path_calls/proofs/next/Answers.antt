@@ -2,6 +2,7 @@
 use mathlib.Core.Path.{sym, ap, subst, ◌∙◌}
 use mathlib.Core.List.{List}
 use Prim.Native.Nat.{ℕ}
+use borrow.Author.Rules.{rules}
 use Rattle.model.specs.Lists.{over}
 use Rattle.model.specs.Answers.{numbers_of_path}
 use Rattle.path_answers.specs.Numbers.{Real}
@@ -9,6 +10,7 @@ use Rattle.path_calls.proofs.next.Goals as goal
 
 pub returns : goal.returns
 returns c =
+    let route = c in
     let a = c.args in
     let is = c.next_route-reply.ensures in
     let out = c.hand_out.ensures in

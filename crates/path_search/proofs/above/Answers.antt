@@ -10,6 +10,7 @@ use Rattle.path_descent.specs.Routes.{is_found, routed}
 use Rattle.path_descent.proofs.Found.{reached, any_first, nothing_written}
 use Rattle.path_search.specs.declared.Start.{Start}
 use Rattle.path_search.proofs.Starts.{by, next_by_lem, same_some}
+use borrow.Author.Rules.{rules}
 use Rattle.path_search.proofs.above.Goals as goal
 
 pub first_by-requires : goal.first_by-requires
@@ -21,6 +22,7 @@ first_by-requires c =
 
 pub next_after-requires : goal.next_after-requires
 next_after-requires c =
+    let start = c in
     let a = c.args in
     record {
       left_value = (zero-add _, c.requires.count_in_bounds.0, c.requires.count_in_bounds.1 (same_some a.given.now a.q.source.0 (sym c.start_of-start.ensures ∙ c.in-Same.is)));
@@ -29,6 +31,7 @@ next_after-requires c =
 
 pub returns-in-Before : goal.returns-in-Before
 returns-in-Before c =
+    let start = c in
     let a = c.args in
     λ S worked stands.
     let w = c.first_by.ensures S worked stands in
@@ -38,6 +41,7 @@ returns-in-Before c =
 
 pub returns-in-Same : goal.returns-in-Same
 returns-in-Same c =
+    let start = c in
     let a = c.args in
     λ S worked stands.
     let w = c.next_after.ensures S worked stands in
@@ -46,6 +50,7 @@ returns-in-Same c =
 
 pub returns-in-Behind : goal.returns-in-Behind
 returns-in-Behind c =
+    let start = c in
     let a = c.args in
     λ S worked stands.
     nothing_written 0 _ a.path.now

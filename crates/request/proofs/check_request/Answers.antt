@@ -11,7 +11,6 @@ request c = request_for c.args.profile.now c.args.asked c.args.include.now c.arg
 
 pub returns-in-Refuse : goal.returns-in-Refuse
 returns-in-Refuse c =
-    let start = c in
     let a = c.args in
     refused-is a.profile.now a.asked a.include.now a.exclude.now _ _ c.refused.ensures
     (sequence-refused (request (goal.at.returns-in-Refuse c).Start) _ (sym (c.request_verdict-first.ensures a.asked.source.0 a.asked.destination.0) ∙ c.in-Refuse.is))

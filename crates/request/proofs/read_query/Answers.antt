@@ -18,7 +18,6 @@ request c = request_for c.args.profile.now c.args.asked c.args.include.now c.arg
 
 pub read_list-read-requires : goal.read_list-read-requires
 read_list-read-requires c =
-    let start = c in
     let p = passed-request (request (goal.at.read_list-read-requires c).Start) c.requires in
     record {
       whole_domains = (whole-domains (layout_in c.args.profile.now) c.args.profile.now p.profile, short_areas (layout_in c.args.profile.now) c.args.profile.now p.profile, p.ingress);
@@ -27,7 +26,6 @@ read_list-read-requires c =
 
 pub returns-in-Refuse : goal.returns-in-Refuse
 returns-in-Refuse c =
-    let start = c in
     let a = c.args in
     let read = c.read_list-read in
     refused-is a.profile.now a.asked a.include.now a.exclude.now _ _ c.refused.ensures
@@ -35,7 +33,6 @@ returns-in-Refuse c =
 
 pub returns : goal.returns
 returns c =
-    let start = c in
     let a = c.args in
     let read = c.read_list-read in
     let st = read.result.state in

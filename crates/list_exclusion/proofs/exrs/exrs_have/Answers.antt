@@ -11,19 +11,16 @@ use Rattle.list_exclusion.proofs.exrs.exrs_have.Goals as goal
 
 pub loop-at-init : goal.loop-at-init
 loop-at-init c =
-    let start = c in
     let a = c.args in
     undecided (carries a.sought) Include a.list.now a.to a.from c.requires.0.order c.requires.0.right
 
 pub next_after-next-requires : goal.next_after-next-requires
 next_after-next-requires c =
-    let start = c in
     let a = c.args in
     readable_there (carries a.sought) Include a.list.now a.to a.from c.loop-at.at c.loop-at.invariant c.loop-at-test.true c.requires.0.inside
 
 pub found_at-requires : goal.found_at-requires
 found_at-requires c =
-    let start = c in
     let a = c.args in
     let s = a.list.now in
     let l = c.loop-at in (

@@ -44,14 +44,12 @@ lent s at next e = let n : next - (at + 4) ≡ length_at s at - 4 = omega arith 
 
 pub found_in-requires : goal.found_in-requires
 found_in-requires c =
-    let start = c in
     let a = c.args in
     let s = a.list.now in
     (rw (lent s a.at a.next c.requires.1) (inside-right s (length s) a.at (omega arith) c.requires.0 c.if-list-at-ne33.false), c.requires.2)
 
 pub returns : goal.returns
 returns c =
-    let start = c in
     let a = c.args in
     let s = a.list.now in
     c.found_in.ensures

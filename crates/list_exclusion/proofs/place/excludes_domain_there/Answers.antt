@@ -11,12 +11,10 @@ returns-then-excludes_domain c = by_first _ _ (domain_either _ _ _) (sym c.exclu
 
 pub exrs_have-requires : goal.exrs_have-requires
 exrs_have-requires c =
-    let start = c in
     (c.requires.1, rw c.taking_domain-sought.ensures c.requires.2)
 
 pub returns : goal.returns
 returns c =
-    let start = c in
     let a = c.args in
     c.exrs_have.ensures
     ∙ ap (λ (q : Sought). found_in q (carried_in a.include.now a.from a.to)) c.taking_domain-sought.ensures

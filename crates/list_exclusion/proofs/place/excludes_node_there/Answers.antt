@@ -12,12 +12,10 @@ returns-then-excludes_node c = by_first _ _ (node_either _ _ _) (sym c.excludes_
 
 pub exrs_have-requires : goal.exrs_have-requires
 exrs_have-requires c =
-    let start = c in
     (c.requires.1, rw c.taking_node-sought.ensures (omega arith))
 
 pub returns : goal.returns
 returns c =
-    let start = c in
     let a = c.args in
     c.exrs_have.ensures
     ∙ ap (λ (q : Sought). found_in q (carried_in a.include.now a.from a.to)) c.taking_node-sought.ensures

@@ -12,12 +12,10 @@ returns-then-some_desired c = by_first _ _ (desired_either _ _) (sym c.some_desi
 
 pub exrs_have-requires : goal.exrs_have-requires
 exrs_have-requires c =
-    let start = c in
     (c.requires.1, rw c.desired-sought.ensures (omega arith))
 
 pub returns : goal.returns
 returns c =
-    let start = c in
     let a = c.args in
     c.exrs_have.ensures
     ∙ ap (λ (q : Sought). found_in q (carried_in a.include.now a.from a.to)) c.desired-sought.ensures

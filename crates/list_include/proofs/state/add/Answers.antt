@@ -4,6 +4,5 @@ use Rattle.list_include.proofs.state.add.Goals as goal
 
 pub returns : goal.returns
 returns c =
-    let start = c in
     let a = c.args in
     added_state a.st a.at a.d c.requires.0 c.requires.1

@@ -10,7 +10,6 @@ use Rattle.list_include.proofs.state.wait_exrs.Goals as goal
 
 pub returns : goal.returns
 returns c =
-    let start = c in
     let a = c.args in
     λ list bytes next standing past.
     let w = state_waits list a.at a.st in

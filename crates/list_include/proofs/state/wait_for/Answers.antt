@@ -17,7 +17,6 @@ returns-then-st-ne0 c =
 
 pub returns : goal.returns
 returns c =
-    let start = c in
     let a = c.args in
     λ list next standing past.
     let w = state_waits list a.at a.st in

@@ -28,7 +28,6 @@ bounds-st-i c =
 -- the stretch at hand
 there : (c : In-loop-i) → Stretch c.args.list.now c.loop-i.from (get_or c.args.st.named c.loop-i.i 0)
 there c =
-    let start = c in
     let l = c.loop-i in
     stretch-there c.args.list.now c.args.st l.i c.loop-i-test.true l.from l.invariant.1 c.requires.1
 
@@ -56,7 +55,6 @@ loop-i-preserved c =
 
 pub returns : goal.returns
 returns c =
-    let start = c in
     let a = c.args in
     let l = c.loop-i in
     let end : l.i ≡ a.st.count = omega (arith, c.loop-i-test.false, l.invariant.0) in

@@ -34,14 +34,11 @@ bounds-st-i c =
 -- the stretch at hand
 there : (c : In-loop-i) → Stretch c.args.list.now c.loop-i.from (get_or c.args.st.named c.loop-i.i 0)
 there c =
-    let start = c in
     let l = c.loop-i in
     stretch-there c.args.list.now c.args.st l.i c.loop-i-test.true l.from l.invariant.1 c.requires.sound_state.1
 
 pub put_exrs-next-requires : goal.put_exrs-next-requires
 put_exrs-next-requires c =
-    let k = c in
-    let start = c in
     let a = c.args in
     let l = c.loop-i in
     (there (goal.at.put_exrs-next-requires c).In-loop-i, omega (arith, size_fits a.list.now a.st l.i c.loop-i-test.true l.from l.invariant.1, c.requires.count_in_bounds.1, l.invariant.2.next, l.invariant.3))
@@ -52,8 +49,6 @@ overflow_sub-counts c = omega (arith, c.put_exrs-next.ensures.next)
 -- a stretch has no more bytes of EXRS than the list has bytes
 pub overflow_cast-counts : goal.overflow_cast-counts
 overflow_cast-counts c =
-    let k = c in
-    let start = c in
     let s = there (goal.at.overflow_cast-counts c).In-loop-i in
     omega (arith, c.put_exrs-next.ensures.next, exrs-few c.args.list.now c.loop-i.from _ s, s.inside, c.requires.sound_state.2)
 
@@ -65,21 +60,17 @@ offset_bounds-counts-i c =
 -- the buffer of counts keeps its length
 long : (c : At-loop-i) → length c.loop-i.counts ≡ length c.args.counts.now
 long c =
-    let start = c in
     let a = c.args in
     let l = c.loop-i in
     part-long a.list.now a.st size a.counts.now l.counts l.i l.invariant.4 c.requires.count_in_bounds.0 l.invariant.0
 
 pub bounds-counts-i : goal.bounds-counts-i
 bounds-counts-i c =
-    let k = c in
     omega (arith, long (goal.at.bounds-counts-i c).At-loop-i, c.loop-i-test.true, c.requires.count_in_bounds.0)
 
 pub loop-i-preserved : goal.loop-i-preserved
 loop-i-preserved c =
     let put = c.put_exrs-next in
-    let k = c in
-    let start = c in
     let a = c.args in
     let l = c.loop-i in
     let s = a.list.now in
@@ -96,7 +87,6 @@ loop-i-preserved c =
 
 pub returns : goal.returns
 returns c =
-    let start = c in
     let a = c.args in
     let l = c.loop-i in
     let end : l.i ≡ a.st.count = omega (arith, c.loop-i-test.false, l.invariant.0) in

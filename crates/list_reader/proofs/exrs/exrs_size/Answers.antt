@@ -10,7 +10,6 @@ use Rattle.list_reader.proofs.exrs.exrs_size.Goals as goal
 
 pub loop-at-init : goal.loop-at-init
 loop-at-init c =
-    let start = c in
     let a = c.args in
     (none_passed a.list.now a.from a.to c.requires, sym (ap length (no_exrs a.list.now a.from a.from (omega arith))))
 
@@ -28,7 +27,6 @@ bytes_at-size-requires c =
 -- the size with the subobject at hand is at most that of the stretch
 pub overflow_add-size : goal.overflow_add-size
 overflow_add-size c =
-    let start = c in
     let a = c.args in
     let l = c.loop-at in
     let fits = size_fits a.list.now a.from a.to l.at l.invariant.0 c.loop-at-test.true c.next_after-next.result c.next_after-next.ensures c.bytes_at-size.result c.bytes_at-size.ensures in
@@ -54,7 +52,6 @@ loop-at-preserved c =
 
 pub returns : goal.returns
 returns c =
-    let start = c in
     let a = c.args in
     let l = c.loop-at in
     let end : l.at ≡ a.to = omega (arith, c.loop-at-test.false, l.invariant.0.left.order) in

@@ -17,7 +17,6 @@ use Rattle.list_reader.proofs.exrs.put_exrs.Goals.{After-next_after-next}
 
 pub loop-o-init : goal.loop-o-init
 loop-o-init c =
-    let start = c in
     let a = c.args in
     let out = a.out.now in (
       none_passed a.list.now a.from a.to c.requires.0,
@@ -48,9 +47,6 @@ slice_bounds-put_bytes-end c = omega (arith, (inside (goal.at.slice_bounds-put_b
 
 pub put_bytes-end-requires : goal.put_bytes-end-requires
 put_bytes-end-requires c =
-    let b = c in
-    let k = c in
-    let start = c in
     let a = c.args in
     let l = c.loop-o in
     let next = c.next_after-next in
@@ -62,7 +58,6 @@ put_bytes-end-requires c =
 
 pub loop-o-smaller : goal.loop-o-smaller
 loop-o-smaller c =
-    let k = c in
     let a = c.args in
     let l = c.loop-o in
     let r = there a.list.now a.from a.to l.o l.invariant.0 c.loop-o-test.true in
@@ -71,10 +66,6 @@ loop-o-smaller c =
 
 pub loop-o-preserved : goal.loop-o-preserved
 loop-o-preserved c =
-    let put = c in
-    let b = c in
-    let k = c in
-    let start = c in
     let a = c.args in
     let l = c.loop-o in
     let next = c.next_after-next in (

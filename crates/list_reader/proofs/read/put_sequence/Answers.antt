@@ -24,7 +24,6 @@ fits c =
 
 pub returns-then-room-n : goal.returns-then-room-n
 returns-then-room-n c =
-    let all = c in
     let a = c.args in
     let stops = state_stops a.list.now a.st in
     let n = length-stops a.list.now a.st in
@@ -37,8 +36,6 @@ returns-then-room-n c =
 
 pub copy_exrs-requires : goal.copy_exrs-requires
 copy_exrs-requires c =
-    let e = c in
-    let start = c in
     record {
       sound_state = c.requires;
       count_in_bounds = (omega (arith, (fits (goal.at.copy_exrs-requires c).Else-exrs-size).0, capacity (goal.at.copy_exrs-requires c).After-lesser-room, length-stops c.args.list.now c.args.st), (fits (goal.at.copy_exrs-requires c).Else-exrs-size).1);
@@ -46,8 +43,6 @@ copy_exrs-requires c =
 
 pub returns : goal.returns
 returns c =
-    let put = c in
-    let e = c in
     let a = c.args in
     let stops = state_stops a.list.now a.st in
     let room = fits (goal.at.returns c).Else-exrs-size in

@@ -51,15 +51,11 @@ returns-in-Refuse-verdict c =
 
 pub put_sequence-requires : goal.put_sequence-requires
 put_sequence-requires c =
-    let told = c in
-    let read = c in
     let sound = c.read_list-read.ensures.sound c.in_default-verdict.is in
     (sound.0, sound.1, (checked (goal.at.put_sequence-requires c).In_default).size)
 
 pub returns : goal.returns
 returns c =
-    let put = c in
-    let told = c in
     let a = c.args in
     same_outcome a.domains.now a.pinned.now a.pins.now a.counts.now a.exrs.now
     (outcome_of a.profile.now a.ingress.0 a.list.now _ _ _ (ends (goal.at.returns c).After-read_list-read _ c.in_default-verdict.is))

@@ -52,7 +52,6 @@ returns-then-t-eq7 c =
 
 pub returns-then-t-eq33 : goal.returns-then-t-eq33
 returns-then-t-eq33 c =
-    let start = c in
     let a = c.args in
     let s = a.list.now in
     let n = c.wide-count-then-t-eq33.ensures.0 in

@@ -6,5 +6,4 @@ use Rattle.list_subobject.proofs.item.next_at.Goals as goal
 
 pub returns-then-list-at-eq1 : goal.returns-then-list-at-eq1
 returns-then-list-at-eq1 c =
-    let start = c in
     ap (λ (n : ℕ). c.args.at + n) (sym (long_1 c.requires c.if-list-at-eq1.true))

@@ -11,10 +11,12 @@ use Rattle.profile_records.specs.Layout.{SoundLayout}
 use Rattle.profile_records.proofs.Layouts.{layout-sound}
 use Rattle.request.specs.Query.{search_for, in_round, round_for, Ready}
 use Rattle.path_search.specs.Searched.{ResultFor}
+use borrow.Author.Rules.{rules}
 use Rattle.path_calls.proofs.routes.sought_route.Goals as goal
 
 pub search-sought-requires : goal.search-sought-requires
 search-sought-requires c =
+    let start = c in
     let a = c.args in
     let lists = lists_of a.include.now a.exclude.now in
     let e = sym c.layout_in-layout.ensures in
@@ -25,6 +27,7 @@ search-sought-requires c =
 
 pub answered-requires : goal.answered-requires
 answered-requires c =
+    let start = c in
     omega (arith, c.requires.0.most)
 
 pub returns : goal.returns

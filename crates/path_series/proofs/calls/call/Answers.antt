@@ -5,7 +5,6 @@ use Prim.Native.Nat.{ℕ, zero, suc}
 use native.Mathlib.Omega.{arith}
 use borrow.Author.Rules.{rules}
 use lib.ListN.{length}
-use lib.Seq.{length-take-le}
 use Rattle.model.specs.Request.{Request}
 use Rattle.model.specs.Calls.{first, next}
 use Rattle.model.specs.Series.{call_outcome}
@@ -31,9 +30,6 @@ pub slice_bounds-path-end : goal.slice_bounds-path-end
 slice_bounds-path-end c =
     let long : length c.args.last.path ≡ 17 = search rules in
     omega arith
-
-pub slice_bounds-next_route-end : goal.slice_bounds-next_route-end
-slice_bounds-next_route-end c = let long : length c.args.last.path ≡ 17 = search rules in sym (length-take-le _ _ (omega arith))
 
 pub returns : goal.returns
 returns c = next_made _ _ _ _ _ c.if-kind-eq0.false c.next_route.ensures

@@ -1,14 +1,11 @@
 -- `path_series::calls::put_reply` meets its contract: the numbers put are those of `five_of`.
-use mathlib.Core.Path.{◌≡◌, ap, ◌∙◌}
+use mathlib.Core.Path.{ap, ◌∙◌}
 use Prim.Native.Nat.{◌*◌}
 use native.Mathlib.Omega.{arith}
 use borrow.Author.Rules.{rules}
-use lib.ListN.{length, get_or}
+use lib.ListN.{get_or}
 use lib.Seq.{paste}
 use Rattle.path_series.proofs.calls.put_reply.Goals as goal
-
-pub put_numbers-requires : goal.put_numbers-requires
-put_numbers-requires c = let long : length c.args.reply.path ≡ 17 = search rules in (search rules, omega arith)
 
 pub returns : goal.returns
 returns c =

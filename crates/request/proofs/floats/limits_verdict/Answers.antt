@@ -15,13 +15,11 @@ bandwidth c = ap not (sym c.in_range.ensures ∙ c.if-not-in_range.false)
 
 pub returns-then-not-in_range-2 : goal.returns-then-not-in_range-2
 returns-then-not-in_range-2 c =
-    let counts = c in
     c.refuse-then-not-in_range-2.ensures
     ∙ sym (bound-wrong c.args.limits (bandwidth (goal.at.returns-then-not-in_range-2 c).Else-not-in_range) c.if-limits.true (ap not (sym c.in_range-then-limits.ensures ∙ c.if-not-in_range-2.true)))
 
 pub returns-else-not-in_range-2 : goal.returns-else-not-in_range-2
 returns-else-not-in_range-2 c =
-    let counts = c in
     let l = c.args.limits in
     sym (limits-right l (bandwidth (goal.at.returns-else-not-in_range-2 c).Else-not-in_range) (rw c.if-limits.true (ap not (sym c.in_range-then-limits.ensures ∙ c.if-not-in_range-2.false))))
 
