@@ -1,4 +1,4 @@
--- The definitions of PCEP messages, of document 02's request [3]: objects in turn, METRICs, PCReq, PCRep; and messages worked out by hand.
+-- The definitions of PCEP messages, of document 02's request [3]: objects in turn, METRICs, PCReq, PCRep.
 pub mod Objects
 pub mod Metrics
 pub mod Pcreq
