@@ -9,7 +9,7 @@ use lib.ListN.{length, drop, get_or, take-append-drop, length-take}
 use lib.Seq.{slice}
 use Rattle.model.specs.declared.Hop.{Hop}
 use Rattle.model.specs.Lists.{count_from, each}
-use Rattle.model.specs.Profile.{Layout, cost_limit}
+use Rattle.model.specs.Profile.{Layout, hops, cost_limit}
 use Rattle.model.specs.Sequence.{Stop}
 use Rattle.model.specs.Request.{Search}
 use Rattle.model.specs.Path.{Leg, legs, leg_at, no_leg}

@@ -1,7 +1,7 @@
 -- `path_descent::first_by` meets its contract, by recursion on how many domains are left: the address alone at the end, else behind the next hop what the call there writes, and the
 -- address before it. Assumes nothing.
 use mathlib.Core.Path.{◌≡◌, sym, ap, subst, ◌∙◌}
-use Prim.Native.Nat.{suc}
+use Prim.Native.Nat.{suc, ◌-◌}
 use native.Mathlib.Numerals.{add-one}
 use native.Mathlib.Omega.{arith}
 use borrow.Author.Tests.{not-true, not-false}

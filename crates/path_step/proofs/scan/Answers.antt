@@ -1,7 +1,7 @@
 -- `path_step::scan` meets its contract. The loop's invariant: the first of all that is taken is the first of those from i on. The measure is what is left of the range.
 use mathlib.Core.Path.{◌≡◌, refl, sym, ap, ◌∙◌}
 use mathlib.Core.List.{head?}
-use Prim.Native.Nat.{ℕ, ◌<◌}
+use Prim.Native.Nat.{ℕ, ◌<◌, ◌-◌}
 use native.Mathlib.Numerals.{add-one}
 use native.Mathlib.Omega.{arith}
 use lib.Seq.{slice}

@@ -1,5 +1,5 @@
 -- `tree_levels::lay_out` meets its contract. The loop's invariant: for every search over these domains, i legs are laid out (`Filled`). The measure is how many domains are left.
-use Prim.Native.Nat.{ℕ, ◌+◌, ◌<◌}
+use Prim.Native.Nat.{ℕ, ◌+◌, ◌-◌, ◌<◌}
 use native.Mathlib.Omega.{arith}
 use mathlib.Core.Path.{◌≡◌, ◌∙◌}
 use native.Mathlib.Numerals.{add-one}

@@ -1,6 +1,6 @@
 -- `path_series::calls::make_calls` meets its contract. The loop's invariant: what the calls made left, with the replies to those still to make, are all the replies (`Progress`).
 -- The measure is how many calls are left.
-use Prim.Native.Nat.{◌+◌, ◌*◌, ◌≤◌, ◌<◌}
+use Prim.Native.Nat.{◌+◌, ◌*◌, ◌-◌, ◌≤◌, ◌<◌}
 use native.Mathlib.Omega.{arith}
 use lib.ListN.{length, get_or}
 use Rattle.path_series.proofs.Forms.{Formed, formed}

@@ -1,4 +1,5 @@
 -- `path_series::form::adds_up` meets its contract. The loop's invariant: the sizes passed and what is left of the whole make the whole. The measure is what is left.
+use Prim.Native.Nat.{◌-◌}
 use mathlib.Core.Path.{sym}
 use native.Mathlib.Omega.{arith}
 use borrow.Author.Tests.{ne_eqb}

@@ -1,4 +1,5 @@
 -- `path_series::form::unknown_kind` meets its contract. The loop's invariant: what is left has an unknown kind where the whole has. The measure is what is left.
+use Prim.Native.Nat.{◌-◌}
 use mathlib.Core.Path.{refl, sym, ◌∙◌}
 use native.Mathlib.Omega.{arith}
 use Rattle.path_series.proofs.Forms.{kind-unknown, kind-known, kinds-known}

@@ -1,5 +1,5 @@
 -- `tree_levels::entries::seek` meets its contract. The loop's invariant: the cells passed are below the node. The measure is how many cells are left.
-use Prim.Native.Nat.{ℕ, ◌+◌, ◌≤◌, ◌<◌}
+use Prim.Native.Nat.{ℕ, ◌+◌, ◌-◌, ◌≤◌, ◌<◌}
 use native.Mathlib.Omega.{arith}
 use native.Mathlib.Nat.{eq-or-lt_of_le}
 use mathlib.Core.Path.{◌≡◌, sym, subst}

@@ -1,6 +1,6 @@
 -- `tree_levels::heads::collect` meets its contract. The loop's invariant: the cells from `from` up to `end` hold the different heads of the records passed. The measure is how
 -- many records are left.
-use Prim.Native.Nat.{ℕ, ◌+◌, ◌≤◌, ◌<◌}
+use Prim.Native.Nat.{ℕ, ◌+◌, ◌-◌, ◌≤◌, ◌<◌}
 use native.Mathlib.Omega.{arith}
 use mathlib.Core.Path.{◌≡◌, ap, sym, subst, ◌∙◌}
 use lib.ListN.{length}
