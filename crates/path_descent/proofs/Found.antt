@@ -3,7 +3,7 @@
 use mathlib.Core.Path.{◌≡◌, refl, sym, ap, subst, ◌∙◌}
 use mathlib.Core.Bool.{Bool, true, false, true≢false}
 use mathlib.Core.List.{List, [], ◌∷◌, head?}
-use mathlib.Core.Option.{Option, none, some, map, none-ne-some, some-injective}
+use mathlib.Core.Option.{Option, none, some, map}
 use Prim.Native.Nat.{ℕ, suc, ◌+◌, ◌-◌, ◌≤◌, ◌<◌}
 use native.Mathlib.Omega.{arith}
 use lib.ListN.{length, drop, get_or, set, length-drop}
@@ -70,22 +70,6 @@ any_first S (leg ∷ rest) i a t =
 first_long : (S : Search) (ls : List Leg) (i a : ℕ) (r : Route) → first_from S ls i a ≡ some r → length r.addresses ≡ suc (length ls)
 first_long S ls i a r e =
     suffix_length S ls i a r (cheapest_mem (suffixes S ls i a) (head?-mem (cheapest (suffixes S ls i a)) (first_split S ls i a ∙ e))).0
-
-by_size : (S : Search) (ls : List Leg) (i a : ℕ) (which : Heads) (r : Route) → first_by S ls i a which ≡ some r → length r.addresses ≡ suc (length ls)
-unfolding first_by
-by_size S [] i a which r e = first_long S [] i a r e
-by_size S (leg ∷ rest) i a which r e = go (head? (wanted_hops which (shortest_hops S leg rest i a))) e
-  where
-    deeper : (h : Hop) (o : Option Route) → first_from S rest (suc i) h.head.0 ≡ o → map (extended a h) o ≡ some r → length r.addresses ≡ suc (suc (length rest))
-    deeper h none f x = absurd (none-ne-some r x)
-    deeper h (some q) f x =
-        ap (λ (p : Route). length p.addresses) (sym (some-injective (extended a h q) r x)) ∙ ap suc (first_long S rest (suc i) h.head.0 q f)
-
-    go
-        : (o : Option Hop) → through (λ (h : Hop). map (extended a h) (first_from S rest (suc i) h.head.0)) o ≡ some r
-        → length r.addresses ≡ suc (suc (length rest))
-    go none x = absurd (none-ne-some r x)
-    go (some h) x = deeper h (first_from S rest (suc i) h.head.0) refl x
 
 next_long : (S : Search) → SortedHops S.hops → (ls : List Leg) (i a : ℕ) (g : List ℕ) (r : Route) → next_after S ls i a g ≡ some r → length r.addresses ≡ suc (length ls)
 unfolding greater_than
@@ -205,14 +189,6 @@ module _ (S : Search) (L : Layout) (s : List ℕ) (q : Query) (addresses codes s
         let long = first_long S (legs_from S (suc i)) (suc i) v there.0 there.1 in
         ap length (written ∙ ap (λ (o : Option Route). routed (suc i) o old) (any_first S (legs_from S (suc i)) (suc i) v t ∙ there.1))
         ∙ written-long old there.0.addresses (suc i) (omega (arith, long, legs_long (suc i)))
-
-    -- whatever is wanted, what is written keeps the length
-    pub by_long : (which : Heads) (old : List ℕ) → i ≤ q.count → q.count < length old → length (routed i (first_by S (legs_from S i) i a which) old) ≡ length old
-    by_long which old k fits = go (first_by S (legs_from S i) i a which) refl
-      where
-        go : (o : Option Route) → first_by S (legs_from S i) i a which ≡ o → length (routed i o old) ≡ length old
-        go none e = refl
-        go (some r) e = written-long old r.addresses i (omega (arith, by_size S (legs_from S i) i a which r e, legs_long i))
 
     -- ---- above a given list
 
