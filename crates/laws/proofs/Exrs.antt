@@ -18,7 +18,7 @@ use Rattle.model.specs.Lists.{all, each}
 use Rattle.model.specs.Verdict.{passes, refuse_if}
 use Rattle.model.specs.Along.{checked_along}
 use Rattle.model.specs.Bytes.{number, part}
-use Rattle.model.specs.Subobject.{Named, prefix, system, area, stretch, Subobject, top_at, type_at, length_at, area_length_at, plain_verdict, carried_verdict, carried_if, subobject_verdict, named_at, subobject_at, after_subobject, form_from, form_verdict, subobjects_from, subobjects, inside_of, carried}
+use Rattle.model.specs.Subobject.{Named, prefix, system, area, stretch, Subobject, type_at, length_at, area_length_at, plain_verdict, carried_verdict, carried_if, subobject_verdict, named_at, after_subobject, form_from, form_verdict, subobjects_from, subobjects, inside_of, carried}
 use Rattle.model.specs.WrittenList.{is_exrs, whole_exrs}
 use Rattle.laws.specs.Exrs.{bytes_named, exrs_in, carried_in}
 use Rattle.laws.proofs.Tests.{decide, and_both, clash}

@@ -1,7 +1,7 @@
 -- Profile W, the second profile of document 01's examples, and every starred case of its section "Profile W and what it gives": one table of rows
 -- (call, inputs, the whole outcome); two more tables with cases of document 02's requests [1] and [4] on W, worked out by hand; and one theorem, that each
 -- row of all holds, computed from the bytes up.
-use Rattle.std.specs.Prelude.{ℕ, zero, suc, ◌+◌, ◌-◌, ◌≡◌, refl, true, false, List, [], ◌∷◌, ◌++◌, map, take, drop}
+use Rattle.std.specs.Prelude.{ℕ, zero, suc, ◌+◌, ◌≡◌, refl, true, false, List, [], ◌∷◌, ◌++◌, map, take, drop}
 use Rattle.std.proofs.Math.Option.{none}
 use Rattle.std.specs.Float.{binary32}
 use Rattle.std.specs.Float.Ieee.{of_bits, to_bits, of_fields, odd, size, span, climb, of_int, round, is_nan}

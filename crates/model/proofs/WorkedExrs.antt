@@ -1,13 +1,10 @@
 -- EXRS on profile W and on the second profile of document 01's examples: document 02's request [5], worked out by hand from the bytes, as rows of the same kind as
 -- those of `WorkedCases`, with one theorem for all of them.
-use Rattle.std.specs.Prelude.{ℕ, zero, suc, ◌+◌, ◌-◌, ◌≡◌, refl, true, false, List, [], ◌∷◌, ◌++◌, map, take, drop}
+use Rattle.std.specs.Prelude.{ℕ, ◌+◌, ◌-◌, ◌≡◌, refl, List, [], ◌∷◌, ◌++◌, map}
 use Rattle.std.proofs.Math.Option.{none, some}
-use Rattle.std.specs.Float.{binary32}
 use Rattle.std.specs.Float.Ieee.{of_bits, to_bits, of_fields, odd, size, span, climb, of_int, round, is_nan}
 use Rattle.std.specs.Float.Ieee as Ieee
 use Rattle.std.specs.Int.Count.{count_trailing_zeros}
-use Rattle.model.specs.declared.Limits.{Limits}
-use Rattle.model.specs.declared.TreeEntry.{TreeEntry}
 use Rattle.model.specs.Lists.{count_from, keep, all, any, each, among, all_different, sum, least, same, below, insert, different, over}
 use Rattle.model.specs.Bytes.{number, bytes_of, all_zero}
 use Rattle.model.specs.Verdict.{in_turn}
@@ -15,18 +12,17 @@ use Rattle.model.specs.Along.{checked_along, places_along}
 use Rattle.model.specs.Reserved.{in_ranges, misplaced, nobodys}
 use Rattle.model.specs.Profile as Profile
 use Rattle.model.specs.Subobject as Subobject
-use Rattle.model.specs.Sequence.{Stop, stop, Reading, refused, good, exrs_of, of_system, of_area, enter, name, read_one, read_all, meaning}
+use Rattle.model.specs.Sequence.{Stop, stop, exrs_of, of_system, of_area, enter, name, read_one, read_all, meaning}
 use Rattle.model.specs.WrittenList.{written_from, written, stops, whole_exrs, unfit, unwritable}
 use Rattle.model.specs.Exclusion.{in_force, some_desired, excluded_domain, excluded_node}
 use Rattle.model.specs.Floats.{units, in_range, at_least, at_most, float_of}
-use Rattle.model.specs.Request.{Request, request_verdict, sequence_of, all_exclusions, search_in}
+use Rattle.model.specs.Request.{request_verdict, sequence_of, all_exclusions, search_in}
 use Rattle.model.specs.Path as Path
 use Rattle.model.specs.Tree as Tree
 use Rattle.model.specs.Rounds.{round_of, search_of}
-use Rattle.model.specs.Answers.{Numbers}
-use Rattle.model.specs.Calls.{Outcome, path_length, reading_of, all_exrs, read_include, write_list, build_tree, first, greater_than, next}
-use Rattle.model.specs.Series.{Call, Reply, first_call, next_call, book, run}
-use Rattle.model.proofs.WorkedCases.{profile_w, profile_ospf, S, P, Q, T, U, to_end, without, desired_without, plain, bounded, on_w, Case, Result, Row, reading, writing, building, starting, following, series, recorded, stops_read, bytes_written, entries_built, path, replies, outcome, numbers, through, at, cut, tree_w, calls, gives_in, gives, ends, none_there, SPUZ, SQTZ, SQUZ, row, book_of}
+use Rattle.model.specs.Calls.{Outcome, reading_of, all_exrs, read_include, write_list, build_tree, first, greater_than, next}
+use Rattle.model.specs.Series.{book, run}
+use Rattle.model.proofs.WorkedCases.{profile_w, profile_ospf, S, P, Q, T, U, to_end, without, desired_without, plain, bounded, on_w, Row, reading, writing, building, starting, series, stops_read, bytes_written, entries_built, path, replies, outcome, numbers, through, at, cut, tree_w, calls, gives_in, gives, ends, none_there, SPUZ, SQTZ, SQUZ, row, book_of}
 
 -- ---- EXRS and other subobjects
 

@@ -1,25 +1,22 @@
 -- Records of a run, those that leave one node of a pair of domains: one that goes on behind a record that passed passes too, since its domains and its tail are that one's and its
 -- head is above. Then how the walk along a run starts, goes on and ends.
-use Prim.Native.Nat.{ℕ, zero, suc, ◌+◌, ◌*◌, ◌/◌, ◌%◌, ◌^◌, ◌<◌, ◌≤◌}
+use Prim.Native.Nat.{ℕ, suc, ◌+◌, ◌*◌, ◌/◌, ◌%◌, ◌^◌, ◌<◌, ◌≤◌}
 use native.Mathlib.Nat.{mul-suc, eq-or-lt_of_le}
-use native.Mathlib.Numerals.{add-one}
 use native.Mathlib.Omega.{arith}
 use mathlib.Core.Path.{◌≡◌, refl, sym, ap, subst, ◌∙◌}
 use mathlib.Core.Logic.{⊎_elim}
 use mathlib.Core.Bool.{Bool, true, false, not, ◌&&◌, ◌||◌}
-use mathlib.Core.List.{List, [], ◌∷◌}
+use mathlib.Core.List.{List}
 use lib.ListN.{length}
 use lib.Dec.{eqb, leb, ltb}
 use borrow.Author.Tests.{eqb-true, leb-true, ltb-true, not-true, eq-eqb, lt-ltb, le-ltb, lt-leb}
-use Rattle.model.specs.declared.Hop.{Hop}
 use Rattle.model.specs.declared.Verdict.TheVariants.{Pass}
 use Rattle.model.specs.Lists.{below}
 use Rattle.model.specs.Bytes.{number}
 use Rattle.model.specs.Reserved.{address_ranges, misplaced}
 use Rattle.model.specs.Verdict.{refuse_if, ◌and_then◌}
-use Rattle.model.specs.Profile.{Layout, class_of, domain_count, hop_start, hop_at, other_cost, bandwidth_bits, hop_malformed, hop_misordered, hop_verdict}
+use Rattle.model.specs.Profile.{Layout, class_of, domain_count, hop_start, hop_at, other_cost, hop_malformed, hop_misordered, hop_verdict}
 use Rattle.laws.proofs.BigEndian.{Bytes}
-use Rattle.laws.proofs.HopKeys.{hop_key}
 use Rattle.laws.proofs.HopOrder.{hop_misordered-key}
 use Rattle.laws.proofs.Tests.{and_both, or_neither, neither_or}
 use Rattle.laws.proofs.Turns.{and_then-refuse_if, refuse_if_pass}

@@ -1,10 +1,9 @@
 -- `buffers::put_bytes` meets its contract. The loop's invariant: the first j bytes are copied. The measure is what is left.
-use Prim.Native.Nat.{◌≤◌, ◌-◌}
-use mathlib.Core.Path.{◌≡◌, refl}
+use Prim.Native.Nat.{◌-◌}
+use mathlib.Core.Path.{refl}
 use native.Mathlib.Omega.{arith}
-use borrow.Author.Rules.{rules}
-use lib.ListN.{length, length-set}
-use lib.Seq.{paste, paste-zero}
+use lib.ListN.{length-set}
+use lib.Seq.{paste-zero}
 use Rattle.buffers.proofs.Places.{one_more, all_put}
 use Rattle.buffers.proofs.put_bytes.Goals as goal
 

@@ -1,6 +1,5 @@
 -- `buffers::put_first` meets its contract: what is put from the start on lies over the start.
 use mathlib.Core.Path.{◌∙◌}
-use borrow.Author.Rules.{rules}
 use Rattle.buffers.proofs.Places.{paste_front}
 use Rattle.buffers.proofs.put_first.Goals as goal
 

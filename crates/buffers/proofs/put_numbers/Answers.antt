@@ -1,10 +1,9 @@
 -- `buffers::put_numbers` meets its contract. The loop's invariant: the first j numbers are copied. The measure is what is left.
-use Prim.Native.Nat.{◌≤◌, ◌-◌}
+use Prim.Native.Nat.{◌-◌}
 use mathlib.Core.Path.{◌≡◌, refl, subst}
 use native.Mathlib.Omega.{arith}
 use native.Mathlib.Numerals.{add-one}
-use borrow.Author.Rules.{rules}
-use lib.ListN.{length, length-set}
+use lib.ListN.{length-set}
 use lib.Seq.{paste, paste-zero, paste-suc}
 use Rattle.buffers.proofs.put_numbers.Goals as goal
 

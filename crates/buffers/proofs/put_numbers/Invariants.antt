@@ -1,11 +1,8 @@
 -- `buffers::put_numbers` meets its contract. The loop's invariant: the first j numbers are copied. The measure is what is left.
 use Prim.Native.Nat.{◌≤◌, ◌-◌}
-use mathlib.Core.Path.{◌≡◌, refl, subst}
-use native.Mathlib.Omega.{arith}
-use native.Mathlib.Numerals.{add-one}
-use borrow.Author.Rules.{rules}
-use lib.ListN.{length, length-set}
-use lib.Seq.{paste, paste-zero, paste-suc}
+use mathlib.Core.Path.{◌≡◌}
+use lib.ListN.{length}
+use lib.Seq.{paste}
 use Rattle.buffers.proofs.put_numbers.Given as goal
 
 abbrev pub invariant-loop-j : goal.invariant-loop-j

@@ -2,7 +2,6 @@
 use mathlib.Core.Path.{sym, ap, subst, ◌∙◌}
 use mathlib.Core.List.{List}
 use Prim.Native.Nat.{ℕ}
-use borrow.Author.Rules.{rules}
 use Rattle.model.specs.Lists.{over}
 use Rattle.model.specs.Answers.{numbers_of_path}
 use Rattle.path_answers.specs.Numbers.{Real}

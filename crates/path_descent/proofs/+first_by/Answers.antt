@@ -1,19 +1,19 @@
 -- `path_descent::first_by` meets its contract, by recursion on how many domains are left: the address alone at the end, else behind the next hop what the call there writes, and the
 -- address before it. Assumes nothing.
 use mathlib.Core.Path.{◌≡◌, sym, ap, subst, ◌∙◌}
-use Prim.Native.Nat.{suc, ◌+◌, ◌-◌}
+use Prim.Native.Nat.{suc, ◌-◌}
 use native.Mathlib.Numerals.{add-one}
 use native.Mathlib.Omega.{arith}
 use borrow.Author.Tests.{not-true, not-false}
-use lib.ListN.{length, length-set}
+use lib.ListN.{length}
 use Rattle.model.specs.Request.{Search}
 use Rattle.profile_records.specs.Layout.{layout_of}
 use Rattle.path_step.specs.declared.Heads.TheVariants.{Any}
 use Rattle.path_step.specs.Worked.{Worked, Stands}
-use Rattle.path_step.specs.Onward.{legs_from, HopOn}
+use Rattle.path_step.specs.Onward.{legs_from}
 use Rattle.path_descent.specs.Routes.{first_by, routed}
 use Rattle.path_descent.proofs.Found.{nothing_written, last_written, first-none, first-written, behind-long}
-use Prim.Native.Nat.{ℕ, ◌<◌}
+use Prim.Native.Nat.{ℕ}
 use Rattle.path_descent.proofs.+first_by.Goals as goal
 use Rattle.path_descent.proofs.+first_by.Goals.{After-first_by}
 

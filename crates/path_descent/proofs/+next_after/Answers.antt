@@ -1,12 +1,11 @@
 -- `path_descent::next_after` meets its contract, by recursion on how many domains are left: nothing above at the end; else what is found deeper behind the hop that the given list
 -- names, with the address before it, or where there is nothing the first behind a greater head. Assumes nothing.
 use mathlib.Core.Path.{◌≡◌, sym, ap, subst, ◌∙◌}
-use mathlib.Core.Logic.{⊎_elim}
 use mathlib.Core.List.{List, head?}
 use Prim.Native.Nat.{suc, ◌+◌, ◌-◌}
 use native.Mathlib.Numerals.{add-one}
 use native.Mathlib.Omega.{arith}
-use lib.ListN.{length, drop, get_or, length-set}
+use lib.ListN.{length, drop, get_or}
 use Rattle.model.specs.Request.{Search}
 use Rattle.laws.specs.Descent.{next_after}
 use Rattle.profile_records.specs.Layout.{layout_of}
@@ -14,7 +13,7 @@ use Rattle.path_step.specs.declared.Heads.TheVariants.{Only, Above}
 use Rattle.path_step.specs.Worked.{Worked, Stands}
 use Rattle.path_step.specs.Onward.{wanted_hops, legs_from, shortest_at, HopOn}
 use Rattle.path_descent.specs.Routes.{first_by, is_found, routed, Written}
-use Rattle.path_descent.proofs.Found.{nothing_written, next-end, next-greater, next-shallow, next-written, deeper_long, by_long, written_as}
+use Rattle.path_descent.proofs.Found.{nothing_written, next-end, next-greater, next-shallow, next-written, deeper_long, written_as}
 use Prim.Native.Nat.{ℕ}
 use Rattle.path_step.specs.declared.Onward.{Onward}
 use Rattle.path_descent.proofs.+next_after.Goals as goal

@@ -10,7 +10,6 @@ use Rattle.path_descent.specs.Routes.{is_found, routed}
 use Rattle.path_descent.proofs.Found.{reached, any_first, nothing_written}
 use Rattle.path_search.specs.declared.Start.{Start}
 use Rattle.path_search.proofs.Starts.{by, next_by_lem, same_some}
-use borrow.Author.Rules.{rules}
 use Rattle.path_search.proofs.above.Goals as goal
 
 pub first_by-requires : goal.first_by-requires

@@ -3,12 +3,9 @@
 use mathlib.Core.Path.{◌≡◌, refl, sym, ap, subst, ◌∙◌}
 use Prim.Native.Nat.{ℕ, suc, ◌<◌}
 use native.Mathlib.Omega.{arith}
-use borrow.Author.Rules.{rules}
-use borrow.Author.Tests.{not-true, not-false}
 use lib.ListN.{get_or}
 use Rattle.laws.specs.Lists.{lists_of}
 use Rattle.profile_records.specs.Layout.{layout_of}
-use Rattle.request.specs.declared.Query.{Query}
 use Rattle.request.specs.Query.{search_for, Ready}
 use Rattle.tree_reaches.specs.Reaches.{code_at}
 use Rattle.path_answers.specs.declared.SearchResult.{SearchResult}

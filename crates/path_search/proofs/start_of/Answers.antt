@@ -1,7 +1,6 @@
 -- `path_search::start_of` meets its contract: the first address, where there is one, against the source.
 use native.Mathlib.Omega.{arith}
 use Rattle.path_search.proofs.Starts.{start_none, start-before, start-same, start-behind}
-use borrow.Author.Rules.{rules}
 use Rattle.path_search.proofs.start_of.Goals as goal
 
 pub returns-then-given-eq0 : goal.returns-then-given-eq0

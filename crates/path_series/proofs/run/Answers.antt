@@ -1,7 +1,6 @@
 -- `path_series::run` meets its contract: malformed arguments leave all as it is, else the calls are made, and what they leave are the replies (`series-replies`).
 use Prim.Native.Nat.{ℕ}
 use mathlib.Core.Path.{sym, ◌∙◌}
-use borrow.Author.Rules.{rules}
 use Rattle.path_series.proofs.Outcomes.{nothing_run, all_run}
 use Rattle.path_series.proofs.run.Goals as goal
 

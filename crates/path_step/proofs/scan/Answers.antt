@@ -1,11 +1,9 @@
 -- `path_step::scan` meets its contract. The loop's invariant: the first of all that is taken is the first of those from i on. The measure is what is left of the range.
 use mathlib.Core.Path.{◌≡◌, refl, sym, ap, ◌∙◌}
-use mathlib.Core.Bool.{Bool}
 use mathlib.Core.List.{head?}
-use Prim.Native.Nat.{ℕ, ◌≤◌, ◌<◌, ◌-◌}
+use Prim.Native.Nat.{ℕ, ◌<◌, ◌-◌}
 use native.Mathlib.Numerals.{add-one}
 use native.Mathlib.Omega.{arith}
-use borrow.Author.Rules.{rules}
 use lib.Seq.{slice}
 use Rattle.model.specs.declared.Hop.{Hop}
 use Rattle.model.specs.Lists.{keep}

@@ -1,22 +1,12 @@
 -- `path_step::scan` meets its contract. The loop's invariant: the first of all that is taken is the first of those from i on. The measure is what is left of the range.
-use mathlib.Core.Path.{◌≡◌, refl, sym, ap, ◌∙◌}
-use mathlib.Core.Bool.{Bool}
+use mathlib.Core.Path.{◌≡◌}
 use mathlib.Core.List.{head?}
-use Prim.Native.Nat.{ℕ, ◌≤◌, ◌<◌, ◌-◌}
-use native.Mathlib.Numerals.{add-one}
-use native.Mathlib.Omega.{arith}
-use borrow.Author.Rules.{rules}
+use Prim.Native.Nat.{◌≤◌, ◌-◌}
 use lib.Seq.{slice}
-use Rattle.model.specs.declared.Hop.{Hop}
 use Rattle.model.specs.Lists.{keep}
-use Rattle.model.specs.Profile.{hop_count, hop_at, hops}
-use Rattle.laws.proofs.BigEndian.{number_bound}
-use Rattle.laws.proofs.Tests.{clash}
+use Rattle.model.specs.Profile.{hops}
 use Rattle.profile_records.specs.Layout.{layout_of}
-use Rattle.tree_reaches.specs.Reaches.{beside}
-use Rattle.path_step.specs.declared.Onward.{Onward}
 use Rattle.path_step.specs.Onward.{is_taken}
-use Rattle.path_step.proofs.Turns.{first_here, first_later, first_of_none}
 use Rattle.path_step.proofs.scan.Given as goal
 
 abbrev pub invariant-loop-i : goal.invariant-loop-i

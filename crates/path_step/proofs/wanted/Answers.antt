@@ -1,6 +1,5 @@
 -- `path_step::wanted` meets its contract: one case for each of the heads that can be wanted.
 use mathlib.Core.Path.{sym, ap}
-use borrow.Author.Rules.{rules}
 use Rattle.path_step.specs.declared.Heads.{Heads}
 use Rattle.path_step.specs.Onward.{is_wanted}
 use Rattle.path_step.proofs.wanted.Goals as goal

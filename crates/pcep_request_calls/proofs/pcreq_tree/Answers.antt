@@ -8,25 +8,38 @@ use Rattle.tree_fields.specs.TreeResult.{TreeIn}
 use Rattle.pcep_model.specs.declared.MessageKind.TheVariants.{Pcreq}
 use Rattle.pcep_model.specs.Objects.{message_verdict}
 use Rattle.pcep_model.specs.Pcreq.{pcreq_tree, carried}
-use Rattle.pcep_request_reader.specs.Carried.{CarriedRequestIs}
+use Rattle.pcep_request_reader.specs.Carried.{CarriedRequestIs, CarriedIs}
 use Rattle.pcep_request_calls.proofs.Through.{behind-passed, tree-refused, same-request}
 use Rattle.pcep_request_calls.proofs.pcreq_tree.Goals as goal
+use Rattle.pcep_request_calls.proofs.pcreq_tree.Goals.{In-Request}
+
+-- the request is the one that the message carries
+request : (c : In-Request) → CarriedRequestIs c.args.ingress.0 c.args.message.now c.in-Request.request
+request c = subst (CarriedIs c.args.ingress.0 c.args.message.now) c.in-Request.is c.carried_by-carried.ensures
+
+pub list_in-include-requires : goal.list_in-include-requires
+list_in-include-requires c = (request (goal.at.list_in-include-requires c).In-Request).include-inside
+
+pub list_in-exclude-requires : goal.list_in-exclude-requires
+list_in-exclude-requires c = (request (goal.at.list_in-exclude-requires c).In-Request).exclude-inside
 
 pub returns-in-Refused : goal.returns-in-Refused
 unfolding pcreq_tree
 returns-in-Refused c =
     let a = c.args in
-    tree-refused (message_verdict Pcreq a.message.now) (build_tree (carried a.profile.now a.ingress.0 a.message.now) (least4 a.level.now a.address.now a.reachable.now a.cost.now)) a.level.now a.address.now a.reachable.now a.cost.now _ c.in-Refused.ensures
+    tree-refused (message_verdict Pcreq a.message.now) (build_tree (carried a.profile.now a.ingress.0 a.message.now) (least4 a.level.now a.address.now a.reachable.now a.cost.now)) a.level.now a.address.now a.reachable.now a.cost.now _
+    (subst (CarriedIs a.ingress.0 a.message.now) c.in-Refused.is c.carried_by-carried.ensures)
 
 pub returns-in-Request : goal.returns-in-Request
 unfolding pcreq_tree
 returns-in-Request c =
     let a = c.args in
     let s = a.message.now in
+    let is = request (goal.at.returns-in-Request c).In-Request in
     let t = c.tree_numbers in
-    let is : CarriedRequestIs a.ingress.0 s c.in-Request.request = c.in-Request.ensures in
     let by : Request → Outcome TreeEntry = λ r. build_tree r (least4 a.level.now a.address.now a.reachable.now a.cost.now) in
     let same = ap by (same-request a.ingress.0 s _ is a.profile.now _ _ c.list_in-include.ensures c.list_in-exclude.ensures) in
-    subst (λ (o : Outcome TreeEntry). TreeIn o a.level.now a.address.now a.reachable.now a.cost.now t.result t.new.level t.new.address t.new.reachable t.new.cost)
+    subst
+    (λ (o : Outcome TreeEntry). TreeIn o a.level.now a.address.now a.reachable.now a.cost.now t.result t.new.level t.new.address t.new.reachable t.new.cost)
     (same ∙ sym (behind-passed (message_verdict Pcreq s) (by (carried a.profile.now a.ingress.0 s)) is.verdict))
     t.ensures

@@ -1,7 +1,6 @@
 -- `profile_check::check_profile` meets its contract: each arm is a case of `profile_numbers`.
 use mathlib.Core.Path.{sym, ap, ◌∙◌}
 use Rattle.model.specs.Calls.{profile_numbers, check_profile}
-use borrow.Author.Rules.{rules}
 use Rattle.profile_check.proofs.check_profile.Goals as goal
 
 pub returns-in-Pass : goal.returns-in-Pass

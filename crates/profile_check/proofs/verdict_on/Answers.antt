@@ -2,7 +2,6 @@
 use mathlib.Core.Path.{ap, ◌∙◌}
 use Rattle.model.specs.Profile.{Layout, profile_verdict}
 use Rattle.profile_records.proofs.Layouts.{layout-sound}
-use borrow.Author.Rules.{rules}
 use Rattle.profile_check.proofs.verdict_on.Goals as goal
 
 pub profile_verdict-requires : goal.profile_verdict-requires

@@ -1,5 +1,4 @@
 -- `profile_hop_range::pair_range` meets its contract: of all hop records those of the pair are the ones whose keys have the pair in front.
-use borrow.Author.Rules.{rules}
 use Prim.Native.Nat.{ℕ}
 use native.Mathlib.Omega.{arith}
 use mathlib.Core.Path.{sym, subst}

@@ -1,5 +1,4 @@
 -- `profile_hop_range::tail_range` meets its contract: of the pair's hop records those that leave the node are the ones whose keys are the pair's and the node's.
-use borrow.Author.Rules.{rules}
 use native.Mathlib.Omega.{arith}
 use lib.Dec.{eqb}
 use Rattle.model.specs.declared.Hop.{Hop}

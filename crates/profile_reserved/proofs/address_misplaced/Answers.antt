@@ -1,5 +1,4 @@
 -- `profile_reserved::address_misplaced` meets its contract: the last three ranges of the table are those of addresses.
-use borrow.Author.Rules.{rules}
 use Rattle.profile_reserved.proofs.Ranges.{by_class}
 use Rattle.model.specs.Reserved.{address_ranges}
 use mathlib.Core.Path.{◌∙◌}

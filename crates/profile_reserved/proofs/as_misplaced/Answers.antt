@@ -1,5 +1,4 @@
 -- `profile_reserved::as_misplaced` meets its contract: the first two ranges of the table are those of AS numbers.
-use borrow.Author.Rules.{rules}
 use Rattle.profile_reserved.proofs.Ranges.{by_class}
 use Rattle.model.specs.Reserved.{as_ranges}
 use mathlib.Core.Path.{◌∙◌}

@@ -1,11 +1,7 @@
 -- `profile_reserved::lies_in` meets its contract. The loop's invariant: the ranges from `i` on decide. The measure is how many are left.
 use Rattle.profile_reserved.proofs.Ranges.{hit, below-range, above-range, none_left}
-use Rattle.profile_reserved.specs.Table.{reserved}
-use Rattle.model.specs.Reserved.{in_ranges}
-use lib.Seq.{slice}
-use mathlib.Core.Path.{◌≡◌, refl, sym, ◌∙◌}
-use mathlib.Core.Logic.{⊎_elim}
-use Prim.Native.Nat.{◌≤◌, ◌-◌}
+use mathlib.Core.Path.{refl, sym, ◌∙◌}
+use Prim.Native.Nat.{◌-◌}
 use native.Mathlib.Omega.{arith}
 use Rattle.profile_reserved.proofs.lies_in.Goals as goal
 use Rattle.profile_reserved.proofs.lies_in.Goals.{then-range-x+else-x-range, else-range-x}
@@ -26,8 +22,8 @@ loop-i-preserved c =
       omega arith,
       l.invariant.1
           ∙ (elim c.if-range-x.branch [
-              | then-range-x+else-x-range w ↦ above-range l.i a.to a.x (omega arith) (omega arith) _ w.if-range-x.true w.if-x-range.false
-              | else-range-x w ↦ below-range l.i a.to a.x (omega arith) (omega arith) _ w.if-range-x.false
+            | then-range-x+else-x-range w ↦ above-range l.i a.to a.x (omega arith) (omega arith) _ w.if-range-x.true w.if-x-range.false
+            | else-range-x w ↦ below-range l.i a.to a.x (omega arith) (omega arith) _ w.if-range-x.false
           ]),
     )
 

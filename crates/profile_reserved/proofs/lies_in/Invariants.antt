@@ -1,12 +1,9 @@
 -- `profile_reserved::lies_in` meets its contract. The loop's invariant: the ranges from `i` on decide. The measure is how many are left.
-use Rattle.profile_reserved.proofs.Ranges.{hit, below-range, above-range, none_left}
 use Rattle.profile_reserved.specs.Table.{reserved}
 use Rattle.model.specs.Reserved.{in_ranges}
 use lib.Seq.{slice}
-use mathlib.Core.Path.{◌≡◌, refl, sym, ◌∙◌}
-use mathlib.Core.Logic.{⊎_elim}
+use mathlib.Core.Path.{◌≡◌}
 use Prim.Native.Nat.{◌≤◌, ◌-◌}
-use native.Mathlib.Omega.{arith}
 use Rattle.profile_reserved.proofs.lies_in.Given as goal
 
 abbrev pub invariant-loop-i : goal.invariant-loop-i

@@ -1,18 +1,17 @@
 -- `tree_levels::lay_out` meets its contract. The loop's invariant: for every search over these domains, i legs are laid out (`Filled`). The measure is how many domains are left.
-use Prim.Native.Nat.{ℕ, ◌+◌, ◌-◌, ◌*◌, ◌≤◌, ◌<◌}
+use Prim.Native.Nat.{ℕ, ◌+◌, ◌-◌, ◌<◌}
 use native.Mathlib.Omega.{arith}
 use mathlib.Core.Path.{◌≡◌, ◌∙◌}
 use native.Mathlib.Numerals.{add-one}
 use lib.ListN.{get_or, set, length-set}
 use lib.Seq.{get_or-set_same}
 use Rattle.model.specs.Profile.{hop_count}
-use Rattle.model.specs.Request.{Search}
 use Rattle.laws.proofs.BigEndian.{number_bound}
 use Rattle.profile_records.specs.Layout.{layout_of}
 use Rattle.tree_levels.specs.Entries.{heads_of}
-use Rattle.tree_levels.specs.Levels.{Covers, Room}
+use Rattle.tree_levels.specs.Levels.{Covers}
 use Rattle.tree_levels.proofs.Legs.{count-is}
-use Rattle.tree_levels.proofs.Filling.{Filled, filled-start, next-filled, last-filled, room-more, few-heads}
+use Rattle.tree_levels.proofs.Filling.{filled-start, next-filled, last-filled, room-more, few-heads}
 use Rattle.tree_levels.proofs.lay_out.Goals as goal
 use Rattle.tree_levels.proofs.lay_out.Goals.{After-shared_slice_known-1}
 

@@ -3,7 +3,7 @@ use Prim.Native.Nat.{◌-◌}
 use mathlib.Core.Path.{sym, ◌∙◌}
 use native.Mathlib.Omega.{arith}
 use borrow.Author.Rules.{rules}
-use Rattle.tree_lookup.proofs.Narrowed.{Narrowed, Turn, narrowed_start, narrowed_end, turn}
+use Rattle.tree_lookup.proofs.Narrowed.{Turn, narrowed_start, narrowed_end, turn}
 use Rattle.tree_lookup.proofs.find_entry.Goals as goal
 use Rattle.tree_lookup.proofs.find_entry.Goals.{In-loop-low}
 

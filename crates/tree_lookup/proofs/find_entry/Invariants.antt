@@ -1,9 +1,6 @@
 -- `tree_lookup::find_entry` meets its contract. The loop's invariant: `Narrowed`, what is known after the looks so far. The measure is what is left of the part.
 use Prim.Native.Nat.{◌-◌}
-use mathlib.Core.Path.{sym, ◌∙◌}
-use native.Mathlib.Omega.{arith}
-use borrow.Author.Rules.{rules}
-use Rattle.tree_lookup.proofs.Narrowed.{Narrowed, Turn, narrowed_start, narrowed_end, turn}
+use Rattle.tree_lookup.proofs.Narrowed.{Narrowed}
 use Rattle.tree_lookup.proofs.find_entry.Given as goal
 
 abbrev pub invariant-loop-low : goal.invariant-loop-low

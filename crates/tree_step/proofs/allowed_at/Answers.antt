@@ -1,8 +1,6 @@
 -- `tree_step::allowed_at` meets its contract: each return is one of the three tests of an entry (`Entries`).
 use mathlib.Core.Path.{sym, ap, ◌∙◌}
 use mathlib.Core.Bool.{not}
-use borrow.Author.Rules.{rules}
-use borrow.Author.Tests.{not-true, not-false}
 use Rattle.laws.specs.Lists.{lists_of}
 use Rattle.tree_step.specs.Step.{leg_exclusions}
 use Rattle.tree_step.proofs.Entries.{domain_excluded, pin_broken, node-decides}

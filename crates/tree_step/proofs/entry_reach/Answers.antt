@@ -1,8 +1,6 @@
 -- `tree_step::entry_reach` meets its contract: nothing where the entry isn't allowed, else the best of the hop records that leave it.
 use mathlib.Core.Path.{refl, sym, ap, ◌∙◌}
 use mathlib.Core.Bool.{Bool}
-use borrow.Author.Rules.{rules}
-use borrow.Author.Tests.{not-true, not-false}
 use Rattle.tree_reaches.proofs.Codes.{reach_none}
 use lib.Seq.{slice}
 use Rattle.model.specs.declared.Hop.{Hop}

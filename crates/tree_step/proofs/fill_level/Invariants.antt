@@ -1,19 +1,10 @@
 -- `tree_step::fill_level` meets its contract. The loop's invariant: the first j of the domain's entries are written, and nothing else. The measure is what is left.
-use mathlib.Core.Path.{◌≡◌, sym, ap, subst, ◌∙◌}
-use mathlib.Core.List.{List}
-use Prim.Native.Nat.{ℕ, ◌+◌, ◌-◌, ◌≤◌, ◌<◌}
-use native.Mathlib.Omega.{arith}
-use native.Mathlib.Numerals.{add-one}
-use borrow.Author.Rules.{rules}
-use lib.ListN.{length, get_or, set, length-map, get_or-map}
-use lib.Seq.{slice, paste, paste-zero, paste-suc, length-paste, length-slice}
+use mathlib.Core.Path.{◌≡◌}
+use Prim.Native.Nat.{◌-◌, ◌≤◌}
+use lib.Seq.{paste}
 use Rattle.laws.specs.Lists.{lists_of}
-use Rattle.laws.proofs.Ranges.{get_or_slice}
 use Rattle.profile_records.specs.Layout.{layout_of}
-use Rattle.tree_reaches.specs.Reaches.{code_of, NextPlace}
-use Rattle.tree_step.specs.Step.{entry_code, level_codes}
-use Rattle.tree_reaches.proofs.Codes.{code_reach}
-use Rattle.tree_step.proofs.Entries.{after-paste, next_kept}
+use Rattle.tree_step.specs.Step.{level_codes}
 use Rattle.tree_step.proofs.fill_level.Given as goal
 
 abbrev pub invariant-loop-j : goal.invariant-loop-j

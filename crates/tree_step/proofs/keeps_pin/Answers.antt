@@ -2,7 +2,6 @@
 use mathlib.Core.Path.{sym, ap}
 use mathlib.Core.Option.{Option}
 use Prim.Native.Nat.{ℕ}
-use borrow.Author.Rules.{rules}
 use Rattle.model.specs.Path.{keeps_pin}
 use Rattle.tree_step.proofs.Entries.{pin_some}
 use Rattle.tree_step.proofs.keeps_pin.Goals as goal

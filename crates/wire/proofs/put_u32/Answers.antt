@@ -1,5 +1,4 @@
 -- `wire::put_u32` meets its contract: its four stores put the bytes of the number in their place.
-use borrow.Author.Rules.{rules}
 use Rattle.wire.proofs.Put.{put_four}
 use lib.ListN.{length-set}
 use native.Mathlib.Omega.{arith}

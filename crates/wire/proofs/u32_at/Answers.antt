@@ -1,5 +1,4 @@
 -- `wire::u32_at` meets its contract: the four bytes written out are the number, and each byte is below 256, so nothing wraps.
-use borrow.Author.Rules.{rules}
 use Prim.Native.Nat.{◌+◌}
 use mathlib.Core.Path.{sym}
 use Rattle.laws.proofs.Words.{number_four}

@@ -5,7 +5,6 @@ use native.Mathlib.Omega.{arith}
 use Rattle.model.specs.Calls.{Outcome}
 use Rattle.path_answers.specs.PathReply.{ReplyIs}
 use Rattle.path_calls.proofs.Outcomes.{first_refused, first_unlent, first_searched, room-there}
-use borrow.Author.Rules.{rules}
 use Rattle.path_calls.proofs.routes.first_route.Goals as goal
 
 pub returns-in-Refuse : goal.returns-in-Refuse

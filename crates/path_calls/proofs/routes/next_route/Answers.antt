@@ -6,7 +6,6 @@ use lib.ListN.{length}
 use Rattle.model.specs.Calls.{Outcome}
 use Rattle.path_answers.specs.PathReply.{ReplyIs}
 use Rattle.path_calls.proofs.Outcomes.{next_refused, next-unlent, next-searched, given-fits}
-use borrow.Author.Rules.{rules}
 use Rattle.path_calls.proofs.routes.next_route.Goals as goal
 
 pub returns-in-Refuse : goal.returns-in-Refuse

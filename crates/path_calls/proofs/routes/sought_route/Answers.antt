@@ -11,7 +11,6 @@ use Rattle.profile_records.specs.Layout.{SoundLayout}
 use Rattle.profile_records.proofs.Layouts.{layout-sound}
 use Rattle.request.specs.Query.{search_for, in_round, round_for, Ready}
 use Rattle.path_search.specs.Searched.{ResultFor}
-use borrow.Author.Rules.{rules}
 use Rattle.path_calls.proofs.routes.sought_route.Goals as goal
 
 pub search-sought-requires : goal.search-sought-requires

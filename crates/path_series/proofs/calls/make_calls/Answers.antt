@@ -2,11 +2,9 @@
 -- The measure is how many calls are left.
 use Prim.Native.Nat.{◌+◌, ◌*◌, ◌-◌, ◌≤◌, ◌<◌}
 use native.Mathlib.Omega.{arith}
-use borrow.Author.Rules.{rules}
 use lib.ListN.{length, get_or}
-use Rattle.request.specs.CheckedRequest.{request_for}
 use Rattle.path_series.proofs.Forms.{Formed, formed}
-use Rattle.path_series.proofs.Steps.{Progress, begin, room_here, numbers_here, turn, done}
+use Rattle.path_series.proofs.Steps.{begin, room_here, numbers_here, turn, done}
 use Rattle.path_series.proofs.calls.make_calls.Goals as goal
 use Rattle.path_series.proofs.calls.make_calls.Goals.{At-loop-j, In-loop-j}
 

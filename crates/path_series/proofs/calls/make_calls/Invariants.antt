@@ -1,12 +1,9 @@
 -- `path_series::calls::make_calls` meets its contract. The loop's invariant: what the calls made left, with the replies to those still to make, are all the replies (`Progress`).
 -- The measure is how many calls are left.
-use Prim.Native.Nat.{◌+◌, ◌*◌, ◌-◌, ◌≤◌, ◌<◌}
-use native.Mathlib.Omega.{arith}
-use borrow.Author.Rules.{rules}
-use lib.ListN.{length, get_or}
+use Prim.Native.Nat.{◌-◌}
+use lib.ListN.{length}
 use Rattle.request.specs.CheckedRequest.{request_for}
-use Rattle.path_series.proofs.Forms.{Formed, formed}
-use Rattle.path_series.proofs.Steps.{Progress, begin, room_here, numbers_here, turn, done}
+use Rattle.path_series.proofs.Steps.{Progress}
 use Rattle.path_series.proofs.calls.make_calls.Given as goal
 
 abbrev pub invariant-loop-j : goal.invariant-loop-j

@@ -1,8 +1,6 @@
 -- `path_series::calls::put_reply` meets its contract: the numbers put are those of `five_of`.
 use mathlib.Core.Path.{ap, ◌∙◌}
 use Prim.Native.Nat.{◌*◌}
-use native.Mathlib.Omega.{arith}
-use borrow.Author.Rules.{rules}
 use lib.ListN.{get_or}
 use lib.Seq.{paste}
 use Rattle.path_series.proofs.calls.put_reply.Goals as goal

@@ -1,12 +1,8 @@
 -- `path_series::form::adds_up` meets its contract. The loop's invariant: the sizes passed and what is left of the whole make the whole. The measure is what is left.
 use Prim.Native.Nat.{◌+◌, ◌≤◌, ◌-◌}
-use mathlib.Core.Path.{◌≡◌, sym}
-use native.Mathlib.Omega.{arith}
-use borrow.Author.Rules.{rules}
-use borrow.Author.Tests.{ne_eqb}
+use mathlib.Core.Path.{◌≡◌}
 use lib.ListN.{length, drop}
 use Rattle.model.specs.Lists.{sum}
-use Rattle.path_series.proofs.Forms.{sum_here, sum_none, left_over}
 use Rattle.path_series.proofs.form.adds_up.Given as goal
 
 abbrev pub invariant-loop-i : goal.invariant-loop-i

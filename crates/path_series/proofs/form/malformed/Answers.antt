@@ -1,7 +1,5 @@
 -- `path_series::form::malformed` meets its contract: the four tests of the definition, in its order.
 use mathlib.Core.Path.{sym, ◌∙◌}
-use borrow.Author.Tests.{not-true, not-false}
-use borrow.Author.Rules.{rules}
 use Rattle.path_series.proofs.Forms.{by_kind, by_counts, by_sums, by_numbers}
 use Rattle.path_series.proofs.form.malformed.Goals as goal
 

@@ -1,12 +1,9 @@
 -- `path_series::form::unknown_kind` meets its contract. The loop's invariant: what is left has an unknown kind where the whole has. The measure is what is left.
 use Prim.Native.Nat.{◌≤◌, ◌-◌}
-use mathlib.Core.Path.{◌≡◌, refl, sym, ◌∙◌}
-use native.Mathlib.Omega.{arith}
-use borrow.Author.Rules.{rules}
+use mathlib.Core.Path.{◌≡◌}
 use lib.ListN.{length, drop}
 use Rattle.model.specs.Lists.{any}
 use Rattle.path_series.specs.Calls.{unknown}
-use Rattle.path_series.proofs.Forms.{kind-unknown, kind-known, kinds-known}
 use Rattle.path_series.proofs.form.unknown_kind.Given as goal
 
 abbrev pub invariant-loop-i : goal.invariant-loop-i

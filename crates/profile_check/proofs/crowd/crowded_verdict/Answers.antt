@@ -1,21 +1,17 @@
 -- `profile_check::crowd::crowded_verdict` meets its contract. The loop's invariant: the records from `i` on decide, and what is noted are the entry nodes of the current pair
 -- (`Passing`). The measure is how many records are left.
-use borrow.Author.Rules.{rules}
 use Rattle.profile_check.proofs.CrowdStep.{Turn, carried-few, same-passes, same_goes_on, seventeenth, few_pass, few_go_on}
-use Rattle.profile_check.proofs.Crowding.{Passing, passing_start}
+use Rattle.profile_check.proofs.Crowding.{passing_start}
 use Rattle.profile_check.proofs.Passed.{all_ordered, all_numeric}
 use Rattle.profile_records.proofs.Fields.{hop-within}
 use Rattle.profile_records.specs.Layout.{layout_of}
-use Rattle.profile_check.specs.Noting.{Padded}
 use Rattle.profile_check.proofs.Padding.{padded_none, padded-carried}
-use Rattle.profile_record_checks.proofs.Turned.{Turned, start, passed, refused, ended}
-use Rattle.model.specs.Profile.{hop_count, crowded_verdict}
+use Rattle.profile_record_checks.proofs.Turned.{start, passed, refused, ended}
+use Rattle.model.specs.Profile.{hop_count}
 use lib.Dec.{eqb}
-use lib.ListN.{length}
 use mathlib.Core.Bool.{◌&&◌}
-use mathlib.Core.Logic.{⊎_elim}
-use mathlib.Core.Path.{◌≡◌, refl, ap, ◌∙◌}
-use Prim.Native.Nat.{ℕ, ◌+◌, ◌≤◌, ◌-◌}
+use mathlib.Core.Path.{refl, ap, ◌∙◌}
+use Prim.Native.Nat.{ℕ, ◌+◌, ◌-◌}
 use native.Mathlib.Omega.{arith}
 use Rattle.profile_check.proofs.crowd.crowded_verdict.Goals as goal
 use Rattle.profile_check.proofs.crowd.crowded_verdict.Goals.{then-from-to+else-count-gt16, else-from-to}

@@ -2,9 +2,8 @@
 use Rattle.profile_check.proofs.Scan.{found_next}
 use Rattle.model.specs.Lists.{any, among}
 use lib.Seq.{take_all}
-use lib.ListN.{take}
-use mathlib.Core.Path.{◌≡◌, refl, ap, ◌∙◌}
-use Prim.Native.Nat.{◌≤◌, ◌-◌}
+use mathlib.Core.Path.{refl, ap, ◌∙◌}
+use Prim.Native.Nat.{◌-◌}
 use native.Mathlib.Omega.{arith}
 use Rattle.profile_check.proofs.crowd.is_noted.Goals as goal
 

@@ -1,5 +1,4 @@
 -- `profile_check::crowd::note` meets its contract: whether anything is noted, whether the node is, and whether there is room pick one of four ways.
-use borrow.Author.Rules.{rules}
 use Rattle.profile_check.proofs.Padding.{note_first, note_held, note_full, note_new}
 use mathlib.Core.Path.{sym, ◌∙◌}
 use Rattle.profile_check.proofs.crowd.note.Goals as goal

@@ -1,5 +1,4 @@
 -- `profile_hop_range::search::key_at` meets its contract: the two words are the parts of the key, and their number fits.
-use borrow.Author.Rules.{rules}
 use Rattle.profile_records.specs.Layout.{layout_of}
 use Rattle.profile_hop_range.proofs.Keys.{key_words}
 use Rattle.profile_hop_range.proofs.search.key_at.Goals as goal

@@ -1,6 +1,5 @@
 -- `profile_hop_range::search::key_range` meets its contract: each end is found by a search. The second is made only where some record has the key or a greater one,
 -- which is far below the largest number.
-use borrow.Author.Rules.{rules}
 use Prim.Native.Nat.{ℕ}
 use native.Mathlib.Omega.{arith}
 use Rattle.laws.proofs.Accepted.{accepted}

@@ -2,7 +2,7 @@
 use Prim.Native.Nat.{ℕ, ◌+◌, ◌-◌, ◌/◌}
 use native.Mathlib.Omega.{arith}
 use Rattle.laws.proofs.Accepted.{accepted}
-use Rattle.laws.proofs.Halving.{Bracket, Halves, bracket_start, bracket-halves}
+use Rattle.laws.proofs.Halving.{Halves, bracket_start, bracket-halves}
 use Rattle.profile_records.proofs.AcceptedHops.{hop-inside}
 use Rattle.profile_records.specs.Layout.{layout_of}
 use Rattle.profile_hop_range.proofs.Halving.{key_at, keys_in_order, bracket-end}

@@ -1,5 +1,4 @@
 -- `profile_record_checks::domain::domain_malformed` meets its contract: the tests are the definition's.
-use borrow.Author.Rules.{rules}
 use Rattle.model.specs.Profile.{domain_malformed}
 use Rattle.profile_record_checks.proofs.domain.domain_malformed.Goals as goal
 

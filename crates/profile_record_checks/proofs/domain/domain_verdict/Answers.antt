@@ -1,5 +1,4 @@
 -- `profile_record_checks::domain::domain_verdict` meets its contract: the three tests are the definition's.
-use borrow.Author.Rules.{rules}
 use Rattle.model.specs.Profile.{domain_verdict}
 use Rattle.profile_record_checks.proofs.domain.domain_verdict.Goals as goal
 

@@ -1,7 +1,5 @@
 -- `profile_record_checks::domain::domains_verdict` meets its contract. The loop's invariant: the records from `i` on decide. The measure is how many are left.
-use borrow.Author.Rules.{rules}
-use Rattle.model.specs.Profile.{domain_verdict}
-use Rattle.profile_record_checks.proofs.Turned.{Turned, start, passed, refused, ended}
+use Rattle.profile_record_checks.proofs.Turned.{start, passed, refused, ended}
 use mathlib.Core.Path.{sym, ◌∙◌}
 use Prim.Native.Nat.{◌-◌}
 use native.Mathlib.Omega.{arith}

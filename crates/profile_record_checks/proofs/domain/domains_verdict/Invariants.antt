@@ -1,10 +1,7 @@
 -- `profile_record_checks::domain::domains_verdict` meets its contract. The loop's invariant: the records from `i` on decide. The measure is how many are left.
-use borrow.Author.Rules.{rules}
 use Rattle.model.specs.Profile.{domain_verdict}
-use Rattle.profile_record_checks.proofs.Turned.{Turned, start, passed, refused, ended}
-use mathlib.Core.Path.{sym, ◌∙◌}
+use Rattle.profile_record_checks.proofs.Turned.{Turned}
 use Prim.Native.Nat.{◌-◌}
-use native.Mathlib.Omega.{arith}
 use Rattle.profile_record_checks.proofs.domain.domains_verdict.Given as goal
 
 abbrev pub invariant-loop-i : goal.invariant-loop-i

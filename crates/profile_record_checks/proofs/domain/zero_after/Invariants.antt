@@ -1,10 +1,8 @@
 -- `profile_record_checks::domain::zero_after` meets its contract. The loop's invariant: what is left from `j` on decides. The measure is what is left of 13.
-use Rattle.profile_record_checks.proofs.Areas.{zero_byte, other_byte, no_byte}
 use Rattle.model.specs.Bytes.{all_zero}
 use lib.ListN.{drop}
-use mathlib.Core.Path.{◌≡◌, refl, sym, ◌∙◌}
+use mathlib.Core.Path.{◌≡◌}
 use Prim.Native.Nat.{◌-◌}
-use native.Mathlib.Omega.{arith}
 use Rattle.profile_record_checks.proofs.domain.zero_after.Given as goal
 
 abbrev pub invariant-loop-j : goal.invariant-loop-j

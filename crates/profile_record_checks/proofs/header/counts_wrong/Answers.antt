@@ -1,5 +1,4 @@
 -- `profile_record_checks::header::counts_wrong` meets its contract: the tests are the definition's.
-use borrow.Author.Rules.{rules}
 use Rattle.model.specs.Profile.{counts_wrong}
 use Rattle.profile_record_checks.proofs.header.counts_wrong.Goals as goal
 

@@ -1,5 +1,4 @@
 -- `profile_record_checks::header::header_verdict` meets its contract: a file that has a header is judged by its other three tests.
-use borrow.Author.Rules.{rules}
 use Rattle.model.specs.Profile.{header_verdict}
 use borrow.Author.Tests.{lt-ltb, le-ltb}
 use lib.ListN.{length}

@@ -1,5 +1,4 @@
 -- `profile_record_checks::header::header_wrong` meets its contract: the mark is the high part of a word, and the tests are the definition's.
-use borrow.Author.Rules.{rules}
 use Rattle.profile_records.proofs.Fields.{high_field}
 use Rattle.model.specs.Profile.{header_wrong}
 use Prim.Native.Nat.{ℕ}

@@ -1,5 +1,4 @@
 -- `profile_record_checks::header::length_wrong` meets its contract: a short record's size times a u16 fits.
-use borrow.Author.Rules.{rules}
 use Rattle.model.specs.Profile.{length_wrong}
 use Prim.Native.Nat.{◌≤◌}
 use native.Mathlib.Nat.{mul-le-mul}

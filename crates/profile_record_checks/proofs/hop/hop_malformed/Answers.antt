@@ -1,5 +1,4 @@
 -- `profile_record_checks::hop::hop_malformed` meets its contract: the two domains are the parts of a word, and the tests are the definition's.
-use borrow.Author.Rules.{rules}
 use Rattle.model.specs.Profile.{hop_at, hop_malformed}
 use Rattle.laws.proofs.BigEndian.{Bytes}
 use Rattle.profile_records.proofs.Fields.{high_field, low_field}

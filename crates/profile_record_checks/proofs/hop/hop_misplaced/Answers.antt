@@ -1,5 +1,4 @@
 -- `profile_record_checks::hop::hop_misplaced` meets its contract: the two nodes are read where the definition reads them.
-use borrow.Author.Rules.{rules}
 use Rattle.model.specs.Profile.{hop_at}
 use Rattle.profile_record_checks.proofs.hop.hop_misplaced.Goals as goal
 

@@ -1,5 +1,4 @@
 -- `profile_record_checks::hop::hop_verdict` meets its contract: the three tests are the definition's.
-use borrow.Author.Rules.{rules}
 use mathlib.Core.Path.{sym}
 use Rattle.model.specs.Profile.{hop_verdict}
 use Rattle.profile_record_checks.proofs.hop.hop_verdict.Goals as goal

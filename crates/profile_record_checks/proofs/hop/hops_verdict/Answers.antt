@@ -1,9 +1,8 @@
 -- `profile_record_checks::hop::hops_verdict` meets its contract. The loop's invariant: the records from `i` on decide, since those of each run passed. The measure is how many are left.
-use borrow.Author.Rules.{rules}
 use Rattle.profile_records.proofs.Fields.{hop-within}
 use Rattle.profile_records.specs.Layout.{layout_of, HopsWithin}
-use Rattle.model.specs.Profile.{hop_count, hop_verdict}
-use Rattle.profile_record_checks.proofs.Turned.{Turned, start, passed_to, refused, ended}
+use Rattle.model.specs.Profile.{hop_count}
+use Rattle.profile_record_checks.proofs.Turned.{start, passed_to, refused, ended}
 use mathlib.Core.Path.{sym, subst, ◌∙◌}
 use Prim.Native.Nat.{◌-◌}
 use native.Mathlib.Omega.{arith}

@@ -1,5 +1,4 @@
 -- `profile_record_checks::run::goes_on` meets its contract: the words read are those of the record, and the tests, all true, say that it goes on.
-use borrow.Author.Rules.{rules}
 use Rattle.profile_record_checks.proofs.Runs.{all_tested}
 use Rattle.profile_records.specs.Layout.{layout_of}
 use Rattle.profile_record_checks.proofs.run.goes_on.Goals as goal

@@ -1,13 +1,10 @@
 -- `profile_records::area::same_bytes` meets its contract. The loop's invariant: the parts from i on are the same just when the whole parts are. The measure is what is left.
 use Prim.Native.Nat.{◌≤◌, ◌-◌}
-use mathlib.Core.Path.{◌≡◌, sym, ap, ◌∙◌}
-use native.Mathlib.Omega.{arith}
-use native.Mathlib.Numerals.{add-one}
-use borrow.Author.Rules.{rules}
+use mathlib.Core.Path.{◌≡◌}
 use lib.ListN.{length, take}
 use Rattle.model.specs.Bytes.{part}
 use Rattle.model.specs.Lists.{same}
-use Rattle.profile_records.proofs.SameAreas.{same_from, same_end, same_whole, same_hit, same_more}
+use Rattle.profile_records.proofs.SameAreas.{same_from}
 use Rattle.profile_records.proofs.area.same_bytes.Given as goal
 
 abbrev pub invariant-loop-i : goal.invariant-loop-i

@@ -1,9 +1,7 @@
 -- `profile_records::domain::area_at` meets its contract. The loop's invariant: the first `j` bytes are copied, the others still zero. The measure is what is left of 13.
 use Rattle.profile_records.proofs.Areas.{copied, copied_whole}
-use lib.ListN.{length, take, drop}
-use mathlib.Core.List.{◌++◌}
-use mathlib.Core.Path.{◌≡◌, refl}
-use Prim.Native.Nat.{◌≤◌, ◌-◌}
+use mathlib.Core.Path.{refl}
+use Prim.Native.Nat.{◌-◌}
 use native.Mathlib.Omega.{arith}
 use Rattle.profile_records.proofs.domain.area_at.Goals as goal
 

@@ -1,5 +1,4 @@
 -- `profile_records::domain::domain_at` meets its contract: each field is read where the definition reads it.
-use borrow.Author.Rules.{rules}
 use Rattle.model.specs.Profile.{domain_at}
 use Rattle.profile_records.proofs.domain.domain_at.Goals as goal
 

@@ -1,5 +1,4 @@
 -- `profile_records::hop::hop_at` meets its contract: each field is read where the definition reads it, and bits below 7F800000 are no NaN's.
-use borrow.Author.Rules.{rules}
 use Rattle.profile_records.proofs.Fields.{no_nan}
 use Rattle.model.specs.Profile.{hop_at}
 use Rattle.profile_records.proofs.hop.hop_at.Goals as goal

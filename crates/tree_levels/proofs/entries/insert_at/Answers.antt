@@ -1,5 +1,4 @@
 -- `tree_levels::entries::insert_at` meets its contract: where the node was sought it is found, or put in.
-use borrow.Author.Rules.{rules}
 use Prim.Native.Nat.{◌<◌}
 use native.Mathlib.Omega.{arith}
 use mathlib.Core.Path.{sym, ◌∙◌}

@@ -1,10 +1,10 @@
 -- `tree_levels::entries::put_before` meets its contract. The loop's invariant: of the node and the cells after it as many as were passed are copied, and the next is at hand.
 -- The measure is how many cells are left.
-use Prim.Native.Nat.{ℕ, suc, ◌-◌, ◌≤◌, ◌<◌}
+use Prim.Native.Nat.{ℕ, suc, ◌-◌, ◌<◌}
 use native.Mathlib.Omega.{arith}
 use native.Mathlib.Nat.{sub_self}
 use mathlib.Core.Path.{◌≡◌, ap, ◌∙◌}
-use lib.ListN.{length, get_or}
+use lib.ListN.{length}
 use lib.Seq.{paste, paste-zero}
 use Rattle.tree_levels.proofs.Placing.{shifted, shift-next, shift_carried, shift_all}
 use Rattle.tree_levels.proofs.entries.put_before.Goals as goal

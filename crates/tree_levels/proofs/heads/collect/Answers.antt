@@ -3,10 +3,8 @@
 use Prim.Native.Nat.{ℕ, ◌+◌, ◌-◌, ◌≤◌, ◌<◌}
 use native.Mathlib.Omega.{arith}
 use mathlib.Core.Path.{◌≡◌, ap, sym, subst, ◌∙◌}
-use mathlib.Core.Logic.{⊎_elim}
-use borrow.Author.Tests.{not-false}
 use lib.ListN.{length}
-use Rattle.model.specs.Profile.{hop_count, hop_start}
+use Rattle.model.specs.Profile.{hop_count}
 use Rattle.profile_records.specs.Layout.{layout_of, HopWithin}
 use Rattle.profile_records.proofs.AcceptedHops.{hop-inside}
 use Rattle.tree_levels.specs.Entries.{heads_of}

@@ -1,17 +1,10 @@
 -- `tree_levels::heads::collect` meets its contract. The loop's invariant: the cells from `from` up to `end` hold the different heads of the records passed. The measure is how
 -- many records are left.
-use Prim.Native.Nat.{ℕ, ◌+◌, ◌-◌, ◌≤◌, ◌<◌}
-use native.Mathlib.Omega.{arith}
-use mathlib.Core.Path.{◌≡◌, ap, sym, subst, ◌∙◌}
-use mathlib.Core.Logic.{⊎_elim}
-use borrow.Author.Tests.{not-false}
-use lib.ListN.{length}
-use Rattle.model.specs.Profile.{hop_count, hop_start}
-use Rattle.profile_records.specs.Layout.{layout_of, HopWithin}
-use Rattle.profile_records.proofs.AcceptedHops.{hop-inside}
-use Rattle.tree_levels.specs.Entries.{heads_of}
-use Rattle.tree_levels.proofs.Placing.{length-placed}
-use Rattle.tree_levels.proofs.Held.{Holds, heads_grow, holds_none, holds-known, holds-put, length_next, head_read, next_start}
+use Prim.Native.Nat.{◌-◌, ◌≤◌}
+use mathlib.Core.Path.{◌≡◌}
+use Rattle.model.specs.Profile.{hop_start}
+use Rattle.profile_records.specs.Layout.{layout_of}
+use Rattle.tree_levels.proofs.Held.{Holds}
 use Rattle.tree_levels.proofs.heads.collect.Given as goal
 
 abbrev pub invariant-loop-i : goal.invariant-loop-i

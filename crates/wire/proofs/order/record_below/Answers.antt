@@ -3,7 +3,7 @@ use native.Mathlib.Nat.{add-zero, add_assoc}
 use Rattle.wire.proofs.Words.{word_less, word_greater, word_same, nothing_left}
 use Rattle.model.specs.Bytes.{part}
 use Rattle.model.specs.Lists.{below}
-use mathlib.Core.Path.{◌≡◌, sym, ap₂, ◌∙◌}
+use mathlib.Core.Path.{sym, ap₂, ◌∙◌}
 use Prim.Native.Nat.{ℕ, ◌+◌, ◌*◌, ◌-◌}
 use native.Mathlib.Omega.{arith}
 use Rattle.wire.proofs.order.record_below.Goals as goal

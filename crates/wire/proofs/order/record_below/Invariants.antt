@@ -1,11 +1,8 @@
 -- `wire::order::record_below` meets its contract. The loop's invariant: the words passed are the same, so what is left decides. The measure is the number of words left.
-use native.Mathlib.Nat.{add-zero, add_assoc}
-use Rattle.wire.proofs.Words.{word_less, word_greater, word_same, nothing_left}
 use Rattle.model.specs.Bytes.{part}
 use Rattle.model.specs.Lists.{below}
-use mathlib.Core.Path.{◌≡◌, sym, ap₂, ◌∙◌}
-use Prim.Native.Nat.{ℕ, ◌+◌, ◌*◌, ◌-◌}
-use native.Mathlib.Omega.{arith}
+use mathlib.Core.Path.{◌≡◌}
+use Prim.Native.Nat.{◌+◌, ◌*◌, ◌-◌}
 use Rattle.wire.proofs.order.record_below.Given as goal
 
 abbrev pub invariant-loop-left : goal.invariant-loop-left
