@@ -7,11 +7,9 @@ use mathlib.Core.Bool.{Bool, true, false, ◌||◌}
 use mathlib.Core.List.{List, [], ◌∷◌, map}
 use lib.ListN.{length, take}
 use lib.Dec.{ltb}
-use Rattle.model.specs.declared.Verdict.{Verdict}
-use Rattle.model.specs.declared.Verdict.TheVariants.{Pass}
 use Rattle.model.specs.declared.WriteAnswer.TheVariants.{Written}
 use Rattle.model.specs.Lists.{any, over}
-use Rattle.model.specs.Verdict.{refuse_if, ◌and_then◌}
+use Rattle.model.specs.Verdict.{Verdict, Pass, refuse_if, ◌and_then◌}
 use Rattle.model.specs.Answers.{Numbers, numbers_of_write}
 use Rattle.model.specs.Calls.{answer_write}
 use Rattle.laws.proofs.Lists.{over-take}

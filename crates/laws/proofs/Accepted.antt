@@ -9,9 +9,8 @@ use mathlib.Core.List.{List}
 use lib.ListN.{length, get_or, drop}
 use lib.Dec.{ltb}
 use borrow.Author.Tests.{ltb-false, leb-false, eqb-true, eqb-false, not-false, le-ltb, lt-leb, eq-eqb, ne_eqb}
-use Rattle.model.specs.declared.Verdict.TheVariants.{Pass}
 use Rattle.model.specs.Bytes.{number, all_zero}
-use Rattle.model.specs.Verdict.{refuse_if, ◌and_then◌, in_turn}
+use Rattle.model.specs.Verdict.{Pass, refuse_if, ◌and_then◌, in_turn}
 use Rattle.model.specs.Reserved.{as_ranges, address_ranges, misplaced, nobodys}
 use Rattle.model.specs.Profile.{Layout, class_of, domain_count, hop_count, domain_start, hop_start, bandwidth_bits, header_wrong, counts_wrong, length_wrong, header_verdict, domain_at, area_length_fits, domain_malformed, domain_misordered, domain_verdict, other_cost, hop_at, hop_malformed, hop_misordered, hop_verdict, crowded, crowded_verdict, profile_verdict}
 use Rattle.laws.proofs.Tests.{or_neither, neither_or}

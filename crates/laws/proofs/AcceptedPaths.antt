@@ -4,9 +4,9 @@ use mathlib.Core.Path.{◌≡◌, sym, subst}
 use mathlib.Core.List.{List, Memᴰ}
 use Prim.Native.Nat.{ℕ, ◌≤◌}
 use native.Mathlib.Omega.{arith}
+use Rattle.model.specs.Verdict.{Pass}
 use Rattle.model.specs.declared.Hop.{Hop}
 use Rattle.model.specs.declared.Round.{Round}
-use Rattle.model.specs.declared.Verdict.TheVariants.{Pass}
 use Rattle.model.specs.Lists.{count_from}
 use Rattle.model.specs.Profile.{Layout, profile_verdict, hop_count, hop_at, hops}
 use Rattle.model.specs.Sequence.{Stop}

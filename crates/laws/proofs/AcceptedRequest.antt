@@ -1,5 +1,6 @@
 -- What acceptance says of a request: every check before the meaning of its include list passes, that meaning is the sequence, and a sequence has 1 to 16 domains.
 -- By cases on the verdict, and by what a reading keeps.
+use Rattle.std.specs.Prelude.{Ok, Err}
 use mathlib.Core.Path.{◌≡◌, refl, sym, ap₂, ◌∙◌}
 use mathlib.Core.Bool.{true, not, ◌&&◌}
 use mathlib.Core.List.{List}
@@ -8,9 +9,8 @@ use native.Mathlib.Omega.{arith}
 use lib.ListN.{length, length-append}
 use lib.Dec.{leb, ltb}
 use borrow.Author.Tests.{leb-false, ltb-false, not-false}
+use Rattle.model.specs.Verdict.{Verdict, Pass}
 use Rattle.model.specs.declared.ListKind.TheVariants.{Include, Exclude}
-use Rattle.model.specs.declared.Verdict.{Verdict}
-use Rattle.model.specs.declared.Verdict.TheVariants.{Pass, Refuse}
 use Rattle.model.specs.Profile.{domain_count, profile_verdict}
 use Rattle.model.specs.Subobject.{form_verdict}
 use Rattle.model.specs.Floats.{in_range}
@@ -21,8 +21,8 @@ use Rattle.laws.proofs.Turns.{refuse_if_pass, and_then-refuse_if, and_then_pass}
 use Rattle.laws.proofs.ReadingKeeps.{refused-good, meaning_keeps}
 
 provided-good : {A : Type 0} (v : Verdict) (reading : Reading A) (x : A) → provided v reading ≡ good x → (v ≡ Pass) × (reading ≡ good x)
-provided-good Pass reading x e = (refl, e)
-provided-good (Refuse r) reading x e = refused-good r x e
+provided-good (Ok _) reading x e = (refl, e)
+provided-good (Err r) reading x e = refused-good r x e
 
 pub accepted-verdict : (r : Request) (sequence : List Stop) → Accepted r sequence → request_verdict r ≡ Pass
 unfolding sequence_of

@@ -1,5 +1,6 @@
 -- A walk along things that stand one after the other, as a loop meets it: a right thing reaches at least one byte further, so what is left from an offset
 -- on doesn't depend on the fuel, and each step is one thing. By recursion on the fuel, for any check, any way on and any end.
+use Rattle.std.specs.Prelude.{Ok, Err}
 use Prim.Native.Nat.{ℕ, zero, suc, ◌+◌, ◌-◌, ◌≤◌, ◌<◌}
 use native.Mathlib.Omega.{arith}
 use mathlib.Core.Path.{◌≡◌, refl, sym, ap, subst, ◌∙◌}
@@ -10,16 +11,14 @@ use mathlib.Core.List.{List, [], ◌∷◌, Memᴰ}
 use lib.Dec.{ltb}
 use borrow.Author.Tests.{lt-ltb, le-ltb, ltb-true, ltb-false}
 use Rattle.model.specs.declared.Refusal.{Refusal}
-use Rattle.model.specs.declared.Verdict.{Verdict}
-use Rattle.model.specs.declared.Verdict.TheVariants.{Pass, Refuse}
-use Rattle.model.specs.Verdict.{◌and_then◌}
+use Rattle.model.specs.Verdict.{Verdict, Pass, ◌and_then◌}
 use Rattle.model.specs.Along.{checked_along, places_along, checked_from, places_from, or_else, first_of}
 use Rattle.laws.proofs.Tests.{decide}
 use Rattle.laws.proofs.Turns.{and_then_pass}
 
 after_pass : (v a b : Verdict) → (v ≡ Pass → a ≡ b) → v and_then a ≡ v and_then b
-after_pass Pass a b h = h refl
-after_pass (Refuse r) a b h = refl
+after_pass (Ok _) a b h = h refl
+after_pass (Err r) a b h = refl
 
 module _ (next : ℕ → ℕ) (end : ℕ) where
   module _ (at fuel : ℕ) where
@@ -140,7 +139,7 @@ module _ (next : ℕ → ℕ) (end : ℕ) where
             ∙ after_pass (check at) (checked_along (end - suc at) check next end (next at)) (checked_from check next end (next at))
             (λ p. let f = further at p in checked_fuel (end - suc at) (end - next at) (next at) (omega arith) (omega arith))
 
-        pub checked_refused : (r : Refusal) → check at ≡ Refuse r → checked_from check next end at ≡ Refuse r
+        pub checked_refused : (r : Refusal) → check at ≡ Err r → checked_from check next end at ≡ Err r
         checked_refused r e = checked_left ∙ ap (λ (v : Verdict). v and_then checked_from check next end (next at)) e
 
         pub checked_next : check at ≡ Pass → checked_from check next end at ≡ checked_from check next end (next at)

@@ -19,7 +19,7 @@ rule_fits k n kind least most t =
 -- the kinds and lengths that fit: no area, 4 bytes of OSPF, 1 to 13 of IS-IS
 pub fits-cases
     : (k n : ℕ) → area_length_fits k n ≡ true → ((k ≡ 0) × (n ≡ 0)) ⊎ (((k ≡ 1) × (n ≡ 4)) ⊎ ((k ≡ 2) × (1 ≤ n) × (n ≤ 13)))
-unfolding area_length_fits any
+unfolding area_length_fits
 fits-cases k n t =
     ⊎_elim
     (λ a. let r = rule_fits k n 0 0 0 a in inl (r.0, omega arith))

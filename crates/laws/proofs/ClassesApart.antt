@@ -7,7 +7,7 @@ use mathlib.Core.Logic.{◌⊎◌, inl, inr, ⊎_elim}
 use mathlib.Core.Bool.{Bool, true, false, true≢false}
 use mathlib.Core.List.{List}
 use borrow.Author.Tests.{not-false}
-use Rattle.model.specs.declared.Verdict.TheVariants.{Pass}
+use Rattle.model.specs.Verdict.{Pass}
 use Rattle.model.specs.Reserved.{Range, as_ranges, address_ranges, in_ranges, misplaced}
 use Rattle.model.specs.Profile.{Layout, class_of, domain_count, hop_count, domain_at, hop_at, profile_verdict}
 use Rattle.laws.proofs.Accepted.{accepted}

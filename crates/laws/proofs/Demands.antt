@@ -8,8 +8,8 @@ use mathlib.Core.Logic.{◌↔◌}
 use mathlib.Core.Bool.{true, false}
 use mathlib.Core.List.{List, [], ◌∷◌, ◌++◌}
 use lib.ListN.{length, get_or}
+use Rattle.model.specs.Verdict.{Pass}
 use Rattle.model.specs.declared.Round.{Round}
-use Rattle.model.specs.declared.Verdict.TheVariants.{Pass}
 use Rattle.model.specs.declared.ListKind.{ListKind}
 use Rattle.model.specs.Profile.{Layout, profile_verdict, domain_count, domain_at, domains, hops, verdict_on}
 use Rattle.model.specs.Subobject.{form_verdict, subobjects}

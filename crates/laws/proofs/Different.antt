@@ -22,7 +22,7 @@ eqb_sym x y = go (eqb y x) refl
 -- ---- which numbers
 
 pub among-append : (y : ℕ) (xs ys : List ℕ) → among y (xs ++ ys) ≡ among y xs || among y ys
-unfolding among any
+unfolding among
 among-append y [] ys = refl
 among-append y (x ∷ xs) ys = ap (λ (t : Bool). eqb y x || t) (among-append y xs ys) ∙ go (eqb y x) (among y xs) (among y ys)
   where

@@ -6,9 +6,8 @@ use mathlib.Core.List.{List, [], ◌∷◌, map}
 use lib.ListN.{length, take}
 use lib.Dec.{eqb, leb, ltb}
 use Rattle.model.specs.declared.Hop.{Hop}
-use Rattle.model.specs.declared.Verdict.{Verdict}
 use Rattle.model.specs.Lists.{count_from, different, keep_if, keep}
-use Rattle.model.specs.Verdict.{refuse_if, ◌and_then◌, in_turn}
+use Rattle.model.specs.Verdict.{Verdict, refuse_if, ◌and_then◌, in_turn}
 use Rattle.model.specs.Reserved.{address_ranges, misplaced}
 use Rattle.model.specs.Profile.{Layout, class_of, domain_count, hop_count, header_wrong, counts_wrong, length_wrong, header_verdict, domain_verdict, cost_of_hop, other_cost, bandwidth_bits, hop_at, hops, hop_malformed, hop_misordered, hop_verdict, between, entry_nodes, crowded, crowded_verdict, profile_verdict}
 

@@ -1,5 +1,6 @@
 -- EXRS in a list of right form: each is a whole subobject of right form wherever its bytes stand, so those of a stretch, back to back, read as themselves and carry
 -- the same exclusions. Bytes that are whole EXRS are all that their EXRS hold. By recursion along the stretch.
+use Rattle.std.specs.Prelude.{Ok, Err}
 use Prim.Native.Nat.{ℕ, zero, suc, ◌+◌, ◌-◌, ◌%◌, ◌≤◌}
 use native.Mathlib.Nat.{add-zero, zero-add}
 use native.Mathlib.Omega.{arith}
@@ -11,11 +12,9 @@ use lib.ListN.{length, get_or, take, drop, length-append, length-drop, take-appe
 use lib.Seq.{length-take-le, take-append_seam, get_or-take, get_or-drop, drop-drop}
 use lib.Dec.{eqb, leb, ltb}
 use borrow.Author.Tests.{eqb-true, eq-eqb, ltb-true, ltb-false}
-use Rattle.model.specs.declared.Verdict.{Verdict}
-use Rattle.model.specs.declared.Verdict.TheVariants.{Pass, Refuse}
 use Rattle.model.specs.declared.ListKind.TheVariants.{Include, Exclude}
 use Rattle.model.specs.Lists.{all, each}
-use Rattle.model.specs.Verdict.{passes, refuse_if}
+use Rattle.model.specs.Verdict.{Verdict, Pass, passes, refuse_if}
 use Rattle.model.specs.Along.{checked_along}
 use Rattle.model.specs.Bytes.{number, part}
 use Rattle.model.specs.Subobject.{Named, prefix, system, area, stretch, Subobject, type_at, length_at, area_length_at, plain_verdict, carried_verdict, carried_if, subobject_verdict, named_at, after_subobject, form_from, form_verdict, subobjects_from, subobjects, inside_of, carried}
@@ -247,7 +246,7 @@ carried-there s from to inside right =
 module _ (s : List ℕ) where
   all_from : (fuel at : ℕ) → length s ≤ at + fuel → at ≤ length s → form_from Include s (length s) at ≡ Pass → all (λ (x : Subobject). is_exrs x.names) (subobjects_from s (length s) at) ≡ true
       → each (λ (x : Subobject). bytes_named x.names) (subobjects_from s (length s) at) ≡ drop at s
-  unfolding each all
+  unfolding each
   all_from zero at high low right only =
       ap (each (λ (x : Subobject). bytes_named x.names)) (subobjects-end s (length s) at (omega arith)) ∙ sym (drop_of_length-le s {i = at} (omega arith))
   all_from (suc fuel) at high low right only =
@@ -287,8 +286,8 @@ module _ (s : List ℕ) where
           none xs e l = omega (arith, ap length e)
 
 pub passes_pass : (v : Verdict) → passes v ≡ true → v ≡ Pass
-passes_pass Pass e = refl
-passes_pass (Refuse r) e = clash e refl
+passes_pass (Ok _) e = refl
+passes_pass (Err r) e = clash e refl
 
 pub record Whole (bytes : List ℕ) : Type 0 where
   pub form : form_verdict Include bytes ≡ Pass

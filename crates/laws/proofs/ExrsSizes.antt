@@ -10,8 +10,8 @@ use lib.ListN.{length, get_or, take, drop, length-append, length-drop, take-appe
 use lib.Seq.{length-take-le, take-suc}
 use lib.Dec.{eqb, ltb}
 use borrow.Author.Tests.{eqb-true, ltb-true, ltb-false}
+use Rattle.model.specs.Verdict.{Pass}
 use Rattle.model.specs.declared.ListKind.TheVariants.{Include}
-use Rattle.model.specs.declared.Verdict.TheVariants.{Pass}
 use Rattle.model.specs.Lists.{each}
 use Rattle.model.specs.Bytes.{part}
 use Rattle.model.specs.Subobject.{Subobject, type_at, length_at, subobject_verdict, named_at, after_subobject}

@@ -10,13 +10,11 @@ use mathlib.Core.List.{List, ◌∷◌}
 use lib.ListN.{length, get_or}
 use lib.Dec.{eqb, leb, ltb}
 use borrow.Author.Tests.{le-ltb, ltb-true, ltb-false, eqb-true, not-false}
-use Rattle.model.specs.declared.Verdict.{Verdict}
-use Rattle.model.specs.declared.Verdict.TheVariants.{Pass}
 use Rattle.model.specs.declared.ListKind.{ListKind}
 use Rattle.model.specs.declared.ListKind.TheVariants.{Include, Exclude}
 use Rattle.model.specs.Lists.{any}
 use Rattle.model.specs.Reserved.{nobodys}
-use Rattle.model.specs.Verdict.{refuse_if, ◌and_then◌}
+use Rattle.model.specs.Verdict.{Verdict, Pass, refuse_if, ◌and_then◌}
 use Rattle.model.specs.Along.{checked_along}
 use Rattle.model.specs.Bytes.{number, part, all_zero}
 use Rattle.model.specs.Subobject.{rounded_up, known, length_fits, top_at, type_at, length_at, area_length_at, top_wrong, prefix_wrong, padding_wrong, field_wrong, plain_verdict, carried_verdict, carried_if, subobject_verdict, after_subobject}
@@ -32,23 +30,23 @@ module _ (k : ListKind) (a n : ℕ) where
   fitted m h = eqb-true n m (sym (or-false (eqb n m)) ∙ h)
 
   pub fits_1 : (t : ℕ) → length_fits k t a n ≡ true → t ≡ 1 → n ≡ 8
-  unfolding length_fits any
+  unfolding length_fits
   fits_1 t h e = let l = fitted (8 + 0 * rounded_up a) (subst (λ (u : ℕ). length_fits k u a n ≡ true) e h) in omega arith
 
   pub fits_5 : (t : ℕ) → length_fits k t a n ≡ true → t ≡ 5 → n ≡ 8
-  unfolding length_fits any
+  unfolding length_fits
   fits_5 t h e = let l = fitted (8 + 0 * rounded_up a) (subst (λ (u : ℕ). length_fits k u a n ≡ true) e h) in omega arith
 
   pub fits_6 : (t : ℕ) → length_fits k t a n ≡ true → t ≡ 6 → n ≡ 8
-  unfolding length_fits any
+  unfolding length_fits
   fits_6 t h e = let l = fitted (8 + 0 * rounded_up a) (subst (λ (u : ℕ). length_fits k u a n ≡ true) e h) in omega arith
 
   pub fits_32 : (t : ℕ) → length_fits k t a n ≡ true → t ≡ 32 → n ≡ 4
-  unfolding length_fits any
+  unfolding length_fits
   fits_32 t h e = let l = fitted (4 + 0 * rounded_up a) (subst (λ (u : ℕ). length_fits k u a n ≡ true) e h) in omega arith
 
   pub fits_7 : (t : ℕ) → length_fits k t a n ≡ true → t ≡ 7 → 4 + a ≤ n
-  unfolding length_fits any
+  unfolding length_fits
   fits_7 t h e = let l = fitted (4 + 1 * rounded_up a) (subst (λ (u : ℕ). length_fits k u a n ≡ true) e h) in omega arith
 
 -- what the form check looks at, one fact for each of its tests, in its order

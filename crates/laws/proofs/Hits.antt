@@ -46,18 +46,17 @@ hitting ds nodes exclusions = keep (hits ds nodes) (map unplaced exclusions)
 -- ---- nothing else takes anything away
 
 any_unplaced : (p : Named → Bool) (xs : List Subobject) → any (λ (s : Subobject). p s.names) (map unplaced xs) ≡ any (λ (s : Subobject). p s.names) xs
-unfolding any
 any_unplaced p [] = refl
 any_unplaced p (s ∷ xs) = ap (λ (b : Bool). p s.names || b) (any_unplaced p xs)
 
 pub desired_unplaced : (xs : List Subobject) → some_desired (map unplaced xs) ≡ some_desired xs
-unfolding some_desired any
+unfolding some_desired
 desired_unplaced [] = refl
 desired_unplaced (s ∷ xs) = ap (λ (b : Bool). s.top || b) (desired_unplaced xs)
 
 -- what fails the second test fails the first too
 any-keep : {A : Type 0} (p q : A → Bool) (xs : List A) → ((x : A) → p x ≡ true → q x ≡ true) → any p (keep q xs) ≡ any p xs
-unfolding any keep
+unfolding keep
 any-keep p q [] h = refl
 any-keep p q (x ∷ xs) h = go (q x) refl ∙ ap (λ (b : Bool). p x || b) (any-keep p q xs h)
   where

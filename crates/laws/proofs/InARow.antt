@@ -8,11 +8,9 @@ use mathlib.Core.Bool.{Bool, true, false}
 use mathlib.Core.List.{List, [], ◌∷◌, ◌++◌, map, append-nil, append_assoc}
 use lib.ListN.{length, get_or, take, drop, length-append}
 use lib.Seq.{get_or-append-add, drop-append-add}
-use Rattle.model.specs.declared.Verdict.{Verdict}
-use Rattle.model.specs.declared.Verdict.TheVariants.{Pass}
 use Rattle.model.specs.Lists.{keep_if, keep, each}
 use Rattle.model.specs.Bytes.{number, part}
-use Rattle.model.specs.Verdict.{◌and_then◌}
+use Rattle.model.specs.Verdict.{Verdict, Pass, ◌and_then◌}
 use Rattle.model.specs.Along.{checked_along, places_along, or_else, first_of}
 use Rattle.laws.proofs.Numbers.{number_shift}
 use Rattle.laws.proofs.Along.{places-step, no_places, check_step, none_checked}

@@ -11,8 +11,8 @@ use lib.ListN.{length, get_or, take, drop, length-append, length-drop, take-appe
 use lib.Seq.{length-take-le, take-append-le, drop-append-le, drop-append-add, get_or-append-add}
 use lib.Dec.{eqb, leb, ltb}
 use borrow.Author.Tests.{eqb-true, ltb-true, ltb-false}
+use Rattle.model.specs.Verdict.{Pass}
 use Rattle.model.specs.declared.Domain.{Domain}
-use Rattle.model.specs.declared.Verdict.TheVariants.{Pass}
 use Rattle.model.specs.declared.ListKind.{ListKind}
 use Rattle.model.specs.Lists.{any, keep}
 use Rattle.model.specs.Bytes.{number, part}
@@ -201,7 +201,6 @@ module _ {A : Type 0} (p : A → Bool) where
       ∙ sym (keep_append p xs zs)
 
   any-without : (xs ys zs : List A) → ((y : A) → Memᴰ y ys → p y ≡ false) → any p (xs ++ (ys ++ zs)) ≡ any p (xs ++ zs)
-  unfolding any
   any-without [] [] zs none = refl
   any-without [] (y ∷ ys) zs none =
       ap (λ (b : Bool). b || any p (ys ++ zs)) (none y (Memᴰ.head refl)) ∙ any-without [] ys zs (λ z m. none z (Memᴰ.tail m))

@@ -7,11 +7,11 @@ use mathlib.Core.List.{List, ◌++◌, map, Memᴰ}
 use Prim.Native.Nat.{ℕ, ◌<◌}
 use native.Mathlib.Omega.{arith}
 use lib.ListN.{length}
+use Rattle.model.specs.Verdict.{Pass}
 use Rattle.model.specs.declared.Domain.{Domain}
 use Rattle.model.specs.declared.Round.{Round}
 use Rattle.model.specs.declared.Round.TheVariants.{First, Second}
 use Rattle.model.specs.declared.ListKind.TheVariants.{Exclude}
-use Rattle.model.specs.declared.Verdict.TheVariants.{Pass}
 use Rattle.model.specs.Lists.{any, each, keep}
 use Rattle.model.specs.Profile.{domains, hops}
 use Rattle.model.specs.Subobject.{Subobject, form_verdict, subobjects, carried}

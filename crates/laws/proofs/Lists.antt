@@ -70,23 +70,19 @@ module _ {A : Type 0} where
   -- ---- all and any
 
   pub all_mem : (p : A → Bool) {x : A} {xs : List A} → all p xs ≡ true → Memᴰ x xs → p x ≡ true
-  unfolding all
   all_mem p {xs = []} t m = elim m [ ]
   all_mem p {xs = y ∷ ys} t (mathlib.Core.List.Memᴰ.head e) = subst (λ (z : A). p z ≡ true) (sym e) (and_both (p y) (all p ys) t).0
   all_mem p {xs = y ∷ ys} t (mathlib.Core.List.Memᴰ.tail m) = all_mem p (and_both (p y) (all p ys) t).1 m
 
   pub mem_all : (p : A → Bool) (xs : List A) → ((x : A) → Memᴰ x xs → p x ≡ true) → all p xs ≡ true
-  unfolding all
   mem_all p [] h = refl
   mem_all p (x ∷ xs) h = both_and (p x) (all p xs) (h x (mathlib.Core.List.Memᴰ.head refl)) (mem_all p xs (λ y m. h y (mathlib.Core.List.Memᴰ.tail m)))
 
   pub any_append : (p : A → Bool) (xs ys : List A) → any p (xs ++ ys) ≡ (any p xs || any p ys)
-  unfolding any
   any_append p [] ys = refl
   any_append p (x ∷ xs) ys = ap (λ (b : Bool). p x || b) (any_append p xs ys) ∙ sym (or_assoc (p x) (any p xs) (any p ys))
 
   pub any_mem : (p : A → Bool) (xs : List A) → any p xs ≡ true → (x : A) × Memᴰ x xs × (p x ≡ true)
-  unfolding any
   any_mem p [] t = absurd (false≢true t)
   any_mem p (x ∷ xs) t =
       ⊎_elim
@@ -95,13 +91,11 @@ module _ {A : Type 0} where
       (or_either (p x) (any p xs) t)
 
   pub mem_any : (p : A → Bool) {x : A} {xs : List A} → Memᴰ x xs → p x ≡ true → any p xs ≡ true
-  unfolding any
   mem_any p {xs = []} m t = elim m [ ]
   mem_any p {xs = y ∷ ys} (mathlib.Core.List.Memᴰ.head e) t = or_left (p y) (any p ys) (subst (λ (z : A). p z ≡ true) e t)
   mem_any p {xs = y ∷ ys} (mathlib.Core.List.Memᴰ.tail m) t = or_right (p y) (any p ys) (mem_any p m t)
 
   pub any_false : (p : A → Bool) {x : A} {xs : List A} → any p xs ≡ false → Memᴰ x xs → p x ≡ false
-  unfolding any
   any_false p {xs = []} t m = elim m [ ]
   any_false p {xs = y ∷ ys} t (mathlib.Core.List.Memᴰ.head e) = subst (λ (z : A). p z ≡ false) (sym e) (or_neither (p y) (any p ys) t).0
   any_false p {xs = y ∷ ys} t (mathlib.Core.List.Memᴰ.tail m) = any_false p (or_neither (p y) (any p ys) t).1 m

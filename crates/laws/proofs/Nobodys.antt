@@ -7,8 +7,8 @@ use mathlib.Core.List.{List, Memᴰ}
 use lib.ListN.{length, get_or}
 use lib.Dec.{eqb}
 use borrow.Author.Tests.{eqb-false}
+use Rattle.model.specs.Verdict.{Pass}
 use Rattle.model.specs.declared.ListKind.{ListKind}
-use Rattle.model.specs.declared.Verdict.TheVariants.{Pass}
 use Rattle.model.specs.Lists.{any}
 use Rattle.model.specs.Bytes.{number, part}
 use Rattle.model.specs.Reserved.{nobodys}
@@ -59,7 +59,7 @@ middle_of a b c e = (or_neither a b (or_neither (a || b) c e).0).1
 
 -- the subobject at an offset, by its type; the test that stands for it is the last of its form
 at_offset : (k : ListKind) (s : List ℕ) (end at : ℕ) → subobject_verdict k s end at ≡ Pass → (n : ℕ) → named_at s at ≡ system n → Owned n
-unfolding named_at known any field_wrong is_system asn_of
+unfolding named_at known field_wrong is_system asn_of
 at_offset k s end at e n h =
     let t = type_at s at in
     let r = pass_right (plain_of k s end at e) in

@@ -9,8 +9,8 @@ use mathlib.Core.List.{List, Memᴰ}
 use lib.ListN.{length}
 use lib.Dec.{eqb}
 use borrow.Author.Tests.{eqb-true}
+use Rattle.model.specs.Verdict.{Pass}
 use Rattle.model.specs.declared.ListKind.TheVariants.{Include, Exclude}
-use Rattle.model.specs.declared.Verdict.TheVariants.{Pass}
 use Rattle.model.specs.Bytes.{part}
 use Rattle.model.specs.Profile.{domain_count, domain_at}
 use Rattle.model.specs.Along.{places_from}

@@ -52,7 +52,7 @@ same_self (x ∷ xs) = both_and (eqb x x) (same xs xs) (eq-eqb x x refl) (same_s
 
 -- in a list of different numbers one isn't among those before it, and those from it on are different
 pub different_fresh : (xs : List ℕ) (d : ℕ) (ys : List ℕ) → all_different (xs ++ (d ∷ ys)) ≡ true → among d xs ≡ false
-unfolding all_different among any
+unfolding all_different among
 different_fresh [] d ys t = refl
 different_fresh (x ∷ xs) d ys t =
     let b = and_both (not (among x (xs ++ (d ∷ ys)))) (all_different (xs ++ (d ∷ ys))) t in
@@ -70,7 +70,7 @@ among-last xs d = mem_any (eqb d) (Memᴰ.append_right xs (Memᴰ.head refl)) (e
 
 -- the one after the first isn't the first
 pub different_next : (d e : ℕ) (ys : List ℕ) → all_different (d ∷ e ∷ ys) ≡ true → d ≡ e → ⊥
-unfolding all_different among any
+unfolding all_different among
 different_next d e ys t equal =
     let b = and_both (not (eqb d e || any (eqb d) ys)) (all_different (e ∷ ys)) t in
     eqb-false d e (or_neither (eqb d e) (any (eqb d) ys) (not-true (eqb d e || any (eqb d) ys) b.0)).0 equal

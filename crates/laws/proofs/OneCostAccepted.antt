@@ -10,9 +10,9 @@ use lib.ListN.{length, get_or, take, drop}
 use lib.Seq.{take-set-le, take-set-lt, get_or-take}
 use lib.Dec.{eqb, ltb}
 use borrow.Author.Tests.{ltb-true, ltb-false}
+use Rattle.model.specs.Verdict.{Pass}
 use Rattle.model.specs.declared.Domain.{Domain}
 use Rattle.model.specs.declared.Hop.{Hop}
-use Rattle.model.specs.declared.Verdict.TheVariants.{Pass}
 use Rattle.model.specs.Bytes.{all_zero}
 use Rattle.model.specs.Lists.{below}
 use Rattle.model.specs.Reserved.{as_ranges, address_ranges, misplaced, nobodys}

@@ -49,7 +49,7 @@ with_include r list =
 
 -- where none of a sequence's EXRS has X set, none at any place has
 clear_at : (ps : List Stop) (i : ℕ) → some_desired (each (λ (p : Stop). carried p.exrs) ps) ≡ false → some_desired (carried (exrs_at ps i)) ≡ false
-unfolding some_desired each any carried subobjects places_along
+unfolding some_desired each carried subobjects places_along
 clear_at [] i c = refl
 clear_at (p ∷ ps) zero c =
     let top : Subobject → Bool = λ (s : Subobject). s.top in

@@ -26,7 +26,7 @@ module _ {A : Type 0} where
 
   -- so are a test before `any` and its own
   pub any-keep : (p q : A → Bool) (xs : List A) → any p (keep q xs) ≡ any (λ (x : A). q x && p x) xs
-  unfolding keep any
+  unfolding keep
   any-keep p q [] = refl
   any-keep p q (x ∷ xs) = go (q x) (any-keep p q xs)
     where

@@ -136,7 +136,7 @@ insert-known x xs s m =
     (λ z n. mem_insert_old x xs n)
 
 pub length-insert_new : (x : ℕ) (xs : List ℕ) → among x xs ≡ false → length (insert x xs) ≡ suc (length xs)
-unfolding among any insert
+unfolding among insert
 length-insert_new x [] f = refl
 length-insert_new x (y ∷ ys) f =
     let apart = or_neither (eqb x y) (any (eqb x) ys) f in

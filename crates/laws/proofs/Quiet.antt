@@ -1,5 +1,6 @@
 -- What every call says and writes by its answer: on any answer but 0 nothing is written and every number but the place is 0, on 0, 1 and 2 the place too; and an
 -- answer is 0, 1, 2 or from 10 to 35. By cases on the checks of each call, whose refusals have these numbers.
+use Rattle.std.specs.Prelude.{Ok, Err}
 use Prim.Native.Nat.{ℕ, zero, suc, ◌≤◌}
 use native.Mathlib.Omega.{arith}
 use mathlib.Core.Path.{◌≡◌, refl}
@@ -8,10 +9,9 @@ use mathlib.Core.List.{List, [], ◌∷◌}
 use lib.ListN.{length, get_or, replicate}
 use lib.Dec.{eqb, ltb}
 use mathlib.Core.Bool.{not}
+use Rattle.model.specs.Verdict.{Verdict}
 use Rattle.model.specs.declared.Refusal.{Refusal}
 use Rattle.model.specs.declared.Round.{Round}
-use Rattle.model.specs.declared.Verdict.{Verdict}
-use Rattle.model.specs.declared.Verdict.TheVariants.{Pass, Refuse}
 use Rattle.model.specs.Profile.{layout_in, domains, verdict_on}
 use Rattle.model.specs.Sequence.{Stop, Reading, refused, good}
 use Rattle.model.specs.WrittenList.{written, stops, unwritable}
@@ -63,12 +63,12 @@ module _ (most : ℕ) (high : 35 ≤ most) where
   -- ---- the calls
 
   profile_by : (v : Verdict) → Refusing most v → QuietNumbers most (profile_numbers v)
-  profile_by Pass h = done_numbers []
-  profile_by (Refuse x) h = refused-numbers 0 x (h.numbered x refl)
+  profile_by (Ok _) h = done_numbers []
+  profile_by (Err x) h = refused-numbers 0 x (h.numbered x refl)
 
   read_by : (v : Verdict) (sequence : List Stop) → Refusing most v → Quiet most (answer_read v sequence)
-  read_by Pass sequence h = done_quiet _ sequence
-  read_by (Refuse x) sequence h = refused_quiet 2 x (h.numbered x refl)
+  read_by (Ok _) sequence h = done_quiet _ sequence
+  read_by (Err x) sequence h = refused_quiet 2 x (h.numbered x refl)
 
   pub room : (needed there : ℕ) → Refusing most (room_verdict needed there)
   room needed there = test most high (ltb there needed) 34 0 (omega arith)
@@ -78,20 +78,20 @@ module _ (most : ℕ) (high : 35 ≤ most) where
   reading_by (good sequence) there bytes h = read_by _ sequence (both most high (room (length sequence) there) (room (length (all_exrs sequence)) bytes))
 
   pub write_by : (v : Verdict) (bytes : List ℕ) → Refusing most v → Quiet most (answer_write v bytes)
-  write_by Pass bytes h = done_quiet _ bytes
-  write_by (Refuse x) bytes h = refused_quiet 1 x (h.numbered x refl)
+  write_by (Ok _) bytes h = done_quiet _ bytes
+  write_by (Err x) bytes h = refused_quiet 1 x (h.numbered x refl)
 
   tree_by : (v : Verdict) (x : Round) (S : Search) → Refusing most v → Quiet most (answer_tree v x S)
-  tree_by Pass x S h = done_quiet _ (tree S)
-  tree_by (Refuse y) x S h = refused_quiet 3 y (h.numbered y refl)
+  tree_by (Ok _) x S h = done_quiet _ (tree S)
+  tree_by (Err y) x S h = refused_quiet 3 y (h.numbered y refl)
 
   first_by_lem : (x : Round) (n : ℕ) (ps : List Route) → n ≤ 2 → Quiet most (first_of x n ps)
   first_by_lem x n [] h = none_quiet n h
   first_by_lem x n (p ∷ ps) h = done_quiet _ p.addresses
 
   path_by : (v : Verdict) (x : Round) (n : ℕ) (ps : List Route) → n ≤ 2 → Refusing most v → Quiet most (answer_path v x n ps)
-  path_by Pass x n ps h k = first_by_lem x n ps h
-  path_by (Refuse y) x n ps h k = refused_quiet 3 y (k.numbered y refl)
+  path_by (Ok _) x n ps h k = first_by_lem x n ps h
+  path_by (Err y) x n ps h k = refused_quiet 3 y (k.numbered y refl)
 
   module _ (r : Request) where
     pub tree_of : (reading : Reading (List Stop)) (there : ℕ) → Reads most reading → Quiet most (tree_into r reading there)

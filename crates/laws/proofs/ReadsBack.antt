@@ -10,8 +10,8 @@ use lib.ListN.{length, get_or, take, drop}
 use lib.Seq.{get_or-drop}
 use lib.Dec.{eqb, leb}
 use borrow.Author.Tests.{eqb-true, leb-false, lt-leb, le-ltb, not-false}
+use Rattle.model.specs.Verdict.{Pass}
 use Rattle.model.specs.declared.Domain.{Domain}
-use Rattle.model.specs.declared.Verdict.TheVariants.{Pass}
 use Rattle.model.specs.declared.ListKind.TheVariants.{Include}
 use Rattle.model.specs.Lists.{any, all_different}
 use Rattle.model.specs.Profile.{layout_in, domain_count, domains, verdict_on}
@@ -43,7 +43,7 @@ stops-writable
     → Bytes xs
     → any (λ (p : Stop). not (whole_exrs p.exrs)) (stops is ms ns cs xs) ≡ false
     → Writable ds (stops is ms ns cs xs)
-unfolding stops any
+unfolding stops
 stops-writable ds [] ms ns cs xs a h b e = tt
 stops-writable ds (i ∷ is) [] ns cs xs a h b e = tt
 stops-writable ds (i ∷ is) (m ∷ ms) [] cs xs a h b e = tt
@@ -62,7 +62,6 @@ first_unpinned zero node e = refl
 first_unpinned (suc m) node e = absurd (omega arith)
 
 first_inside : (n : ℕ) (is : List ℕ) → (length is ≡ 0 → ⊥) → any (λ (d : ℕ). leb n d) is ≡ false → get_or is 0 0 < n
-unfolding any
 first_inside n [] e a = absurd (e refl)
 first_inside n (i ∷ is) e a = leb-false n i (or_neither (leb n i) (any (λ (d : ℕ). leb n d) is) a).0
 

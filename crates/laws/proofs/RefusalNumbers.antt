@@ -1,5 +1,6 @@
 -- Every refusal has one of document 01's numbers, from 10 to 35: so an answer 0, 1 or 2 is no refusal. By going through the checks, one after the other. Up to any number
 -- that is at least 35, since messages are refused by more.
+use Rattle.std.specs.Prelude.{Ok, Err}
 use Prim.Native.Nat.{ℕ, zero, suc, ◌+◌, ◌-◌, ◌≤◌}
 use native.Mathlib.Omega.{arith}
 use mathlib.Core.Path.{◌≡◌, sym, ap, subst}
@@ -13,10 +14,8 @@ use borrow.Author.Tests.{ltb-true, ltb-false}
 use Rattle.model.specs.declared.ListKind.{ListKind}
 use Rattle.model.specs.declared.ListKind.TheVariants.{Include, Exclude}
 use Rattle.model.specs.declared.Refusal.{Refusal}
-use Rattle.model.specs.declared.Verdict.{Verdict}
-use Rattle.model.specs.declared.Verdict.TheVariants.{Pass, Refuse}
 use Rattle.model.specs.Lists.{among}
-use Rattle.model.specs.Verdict.{refuse_if, ◌and_then◌, in_turn}
+use Rattle.model.specs.Verdict.{Verdict, Pass, refuse_if, ◌and_then◌, in_turn}
 use Rattle.model.specs.Along.{checked_along}
 use Rattle.model.specs.Profile.{Layout, class_of, domain_count, hop_count, header_wrong, counts_wrong, length_wrong, header_verdict, domain_at, domain_malformed, domain_misordered, domain_verdict, hop_at, hop_malformed, hop_misordered, hop_verdict, crowded, crowded_verdict, profile_verdict, layout_in}
 use Rattle.model.specs.Reserved.{as_ranges, address_ranges, misplaced}
@@ -33,7 +32,7 @@ abbrev pub Numbered : ℕ → Refusal → Type 0
 Numbered most x = (10 ≤ x.number) × (x.number ≤ most)
 
 pub record Refusing (most : ℕ) (v : Verdict) : Type 0 where
-  pub numbered : (x : Refusal) → v ≡ Refuse x → Numbered most x
+  pub numbered : (x : Refusal) → v ≡ Err x → Numbered most x
 
 pub record Reads {A : Type 0} (most : ℕ) (reading : Reading A) : Type 0 where
   pub numbered : (x : Refusal) → reading ≡ refused x → Numbered most x
@@ -56,8 +55,8 @@ module _ (most : ℕ) (high : 35 ≤ most) where
   test false n p h = passing
 
   pub both : {v w : Verdict} → Refusing most v → Refusing most w → Refusing most (v and_then w)
-  both {v = Pass} h k = k
-  both {v = Refuse r} h k = h
+  both {v = Ok _} h k = k
+  both {v = Err r} h k = h
 
   pub more : {v : Verdict} → Refusing most v → (b : Bool) (n p : ℕ) → (10 ≤ n) × (n ≤ most) → Refusing most (v and_then refuse_if b n p)
   more h b n p r = both h (test b n p r)
@@ -176,8 +175,8 @@ module _ (most : ℕ) (high : 35 ≤ most) where
         }
 
     pub provided_reads : {v : Verdict} {reading : Reading A} → Refusing most v → Reads most reading → Reads most (provided v reading)
-    provided_reads {v = Pass} h k = k
-    provided_reads {v = Refuse r} h k = record { numbered = λ x e. let q : r ≡ x = cc in h.numbered x (ap Refuse q) }
+    provided_reads {v = Ok _} h k = k
+    provided_reads {v = Err r} h k = record { numbered = λ x e. let q : r ≡ x = cc in h.numbered x (ap Err q) }
 
   continue_reads : {A B : Type 0} (reading : Reading A) (f : A → Reading B) → Reads most reading → ((a : A) → Reads most (f a)) → Reads most (continue reading f)
   continue_reads (refused r) f h k = record { numbered = λ x e. let q : r ≡ x = cc in h.numbered x (ap refused q) }

@@ -1,5 +1,6 @@
 -- The round trip of the two calls on lists: where `write_list` answers that it wrote n bytes, `read_include` on these bytes, with the first domain as ingress
 -- and enough room, answers the sequence that was written. By `reads-back`; that 0 is answered for a written list alone follows from the refusals' numbers.
+use Rattle.std.specs.Prelude.{Err}
 use Prim.Native.Nat.{ℕ, zero, suc, ◌+◌, ◌^◌, ◌≤◌, ◌<◌}
 use native.Mathlib.Omega.{arith}
 use mathlib.Core.Path.{◌≡◌, refl, ap, ap₂, ◌∙◌}
@@ -9,9 +10,7 @@ use lib.ListN.{length, get_or}
 use lib.Dec.{ltb}
 use borrow.Author.Tests.{le-ltb}
 use Rattle.model.specs.declared.Refusal.{Refusal}
-use Rattle.model.specs.declared.Verdict.{Verdict}
-use Rattle.model.specs.declared.Verdict.TheVariants.{Pass, Refuse}
-use Rattle.model.specs.Verdict.{refuse_if, ◌and_then◌, in_turn}
+use Rattle.model.specs.Verdict.{Verdict, Pass, refuse_if, ◌and_then◌, in_turn}
 use Rattle.model.specs.Reserved.{as_ranges, address_ranges, misplaced}
 use Rattle.model.specs.Profile.{Layout, layout_in, class_of, domain_count, hop_count, header_wrong, counts_wrong, length_wrong, header_verdict, domain_at, domain_malformed, domain_misordered, domain_verdict, hop_at, hop_malformed, hop_misordered, hop_verdict, crowded, crowded_verdict, profile_verdict, domains, verdict_on}
 use Rattle.model.specs.Sequence.{Stop, Reading}
@@ -26,7 +25,7 @@ use Rattle.laws.proofs.ReadsBack.{reads-back}
 
 data Numbered : Verdict → Type 0 where
   passes : Numbered Pass
-  numbers : {r : Refusal} → 1 ≤ r.number → Numbered (Refuse r)
+  numbers : {r : Refusal} → 1 ≤ r.number → Numbered (Err r)
 
 numbered_if : (b : Bool) (n p : ℕ) → 1 ≤ n → Numbered (refuse_if b n p)
 numbered_if true n p h = numbers h

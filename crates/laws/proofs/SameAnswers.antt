@@ -1,5 +1,6 @@
 -- Requests for which the rounds that apply find the same give the same answers: only an answer 0 names a round, so where there is no path the round doesn't
 -- show in first, next and a series. The tree's entries are the same in any case, and where the rounds are the same its numbers are too.
+use Rattle.std.specs.Prelude.{Ok, Err}
 use mathlib.Core.Path.{◌≡◌, refl, sym, subst, ap, ◌∙◌}
 use mathlib.Core.Logic.{◌⊎◌, ⊎_elim}
 use mathlib.Core.Bool.{Bool, true, false, not}
@@ -9,10 +10,8 @@ use lib.ListN.{length}
 use lib.Dec.{eqb, ltb}
 use Rattle.model.specs.declared.Round.{Round}
 use Rattle.model.specs.declared.TreeEntry.{TreeEntry}
-use Rattle.model.specs.declared.Verdict.{Verdict}
-use Rattle.model.specs.declared.Verdict.TheVariants.{Pass, Refuse}
 use Rattle.model.specs.Lists.{keep}
-use Rattle.model.specs.Verdict.{refuse_if, ◌and_then◌}
+use Rattle.model.specs.Verdict.{Verdict, refuse_if, ◌and_then◌}
 use Rattle.model.specs.Sequence.{Stop, Reading}
 use Rattle.model.specs.Exclusion.{some_desired}
 use Rattle.model.specs.Request.{Request, Accepted, Search, all_exclusions}
@@ -62,8 +61,8 @@ told answer none r r' sequence sequence' same =
     same.round
 
 no_path_lem : (v : Verdict) (x y : Round) (n : ℕ) → answer_path v x n [] ≡ answer_path v y n []
-no_path_lem Pass x y n = refl
-no_path_lem (Refuse q) x y n = refl
+no_path_lem (Ok _) x y n = refl
+no_path_lem (Err q) x y n = refl
 
 none_greater : (v : Verdict) (x y : Round) (given : List ℕ) → answer_path v x 2 (greater_than given []) ≡ answer_path v y 2 (greater_than given [])
 unfolding greater_than keep
@@ -108,8 +107,8 @@ tree-entries room x y S T f =
     (go (room_verdict (length (tree S)) room))
   where
     go : (v : Verdict) → SameEntries (answer_tree v x S) (answer_tree v y T)
-    go Pass = record { answer = refl; place = refl; entries = ap length f.tree; written = f.tree; many = refl }
-    go (Refuse q) = record { answer = refl; place = refl; entries = refl; written = refl; many = refl }
+    go (Ok _) = record { answer = refl; place = refl; entries = ap length f.tree; written = f.tree; many = refl }
+    go (Err q) = record { answer = refl; place = refl; entries = refl; written = refl; many = refl }
 
 tree-whole
     : (room : ℕ) (x y : Round) (S T : Search) → SameFound S T
@@ -119,8 +118,8 @@ tree-whole room x y S T f e =
     go (room_verdict (length (tree S)) room) ∙ ap (λ (ts : List TreeEntry). answer_tree (room_verdict (length ts) room) y T) f.tree
   where
     go : (v : Verdict) → answer_tree v x S ≡ answer_tree v y T
-    go Pass = λ i. record { numbers = done4 (length (f.tree i)) (over_rounds (e i) (f.tally i)) (e i); written = f.tree i }
-    go (Refuse q) = refl
+    go (Ok _) = λ i. record { numbers = done4 (length (f.tree i)) (over_rounds (e i) (f.tally i)) (e i); written = f.tree i }
+    go (Err q) = refl
 
 -- ---- the laws
 

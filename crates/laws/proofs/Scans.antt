@@ -10,7 +10,6 @@ use Rattle.model.specs.Lists.{any}
 
 module _ (s : List ℕ) (i : ℕ) (h : i < length s) (p : ℕ → Bool) where
   any_step : any p (drop i s) ≡ p (get_or s i 0) || any p (drop (suc i) s)
-  unfolding any
   any_step = ap (any p) (drop-cons s i 0 h)
 
   pub any-hit : p (get_or s i 0) ≡ true → any p (drop i s) ≡ true
@@ -20,5 +19,4 @@ module _ (s : List ℕ) (i : ℕ) (h : i < length s) (p : ℕ → Bool) where
   any_miss e = rw (any_step, e, add-one i) refl
 
 pub any-end : (s : List ℕ) (i : ℕ) → length s ≤ i → (p : ℕ → Bool) → any p (drop i s) ≡ false
-unfolding any
 any-end s i h p = rw (drop_of_length-le s h) refl

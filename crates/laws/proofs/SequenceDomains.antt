@@ -22,7 +22,7 @@ use Rattle.laws.proofs.ReadingKeeps.{meaning_keeps}
 
 -- a number that is new may stand at the end
 different_more : (xs : List ℕ) (d : ℕ) → all_different xs ≡ true → among d xs ≡ false → all_different (xs ++ (d ∷ [])) ≡ true
-unfolding all_different among any
+unfolding all_different among
 different_more [] d t f = refl
 different_more (x ∷ xs) d t f =
     let b = and_both (not (among x xs)) (all_different xs) t in
@@ -33,7 +33,7 @@ different_more (x ∷ xs) d t f =
 
 module _ (R : ReadingInput) (ingress : ℕ) (list : List ℕ) (sequence : List Stop) (e : meaning R ingress list ≡ good sequence) where
   pub meaning-different : all_different (domains_of sequence) ≡ true
-  unfolding all_different among any
+  unfolding all_different among
   meaning-different =
       meaning_keeps R (λ (s : List Stop). all_different (domains_of s) ≡ true)
       (λ s d waiting h l new full. ap all_different (map-append (λ (p : Stop). p.domain) s _) ∙ different_more (domains_of s) d h new)

@@ -11,8 +11,8 @@ use lib.ListN.{length, get_or, take, drop, replicate, length-drop, take-append-d
 use lib.Seq.{length-take-le, get_or-take, get_or-drop, ext_get_or}
 use lib.Dec.{eqb, ltb}
 use borrow.Author.Tests.{eqb-true, eq-eqb, ltb-true, ltb-false, not-false}
+use Rattle.model.specs.Verdict.{Pass}
 use Rattle.model.specs.declared.Domain.{Domain}
-use Rattle.model.specs.declared.Verdict.TheVariants.{Pass}
 use Rattle.model.specs.Lists.{all, below}
 use Rattle.model.specs.Reserved.{nobodys}
 use Rattle.model.specs.Bytes.{number, part, all_zero}
@@ -77,7 +77,7 @@ part_alike s a b n ha hb e =
     part_at s a n i l ∙ e i l ∙ sym (part_at s b n i l))
 
 zeros : (xs : List ℕ) → all_zero xs ≡ true → xs ≡ replicate (length xs) 0
-unfolding all_zero all
+unfolding all_zero
 zeros [] t = refl
 zeros (x ∷ xs) t =
     let b = and_both (eqb 0 x) (all_zero xs) t in

@@ -81,7 +81,7 @@ module _ (here : Reach) (a : ℕ) (h : Hop) (rs : List Route) (bound : (r : Rout
 
 -- with no leg left the one route, where the address is allowed
 pub cheapest-end : (S : Search) (i a : ℕ) → cheapest (suffixes S [] i a) ≡ routes_if (allowed S i a) (ending a ∷ [])
-unfolding suffixes cheapest keep all
+unfolding suffixes cheapest keep
 cheapest-end S i a = go (allowed S i a)
   where
     go : (b : Bool) → cheapest (routes_if b (ending a ∷ [])) ≡ routes_if b (ending a ∷ [])

@@ -101,7 +101,7 @@ module _ where
 
   pub stops-marks : (is ms ns cs xs : List ℕ) → length ms ≡ length is → length ns ≡ length is → length cs ≡ length is → any (λ (m : ℕ). ltb 1 m) ms ≡ false
       → map (λ (s : Stop). pin_mark s.pin) (stops is ms ns cs xs) ≡ ms
-  unfolding stops any
+  unfolding stops
   stops-marks [] [] ns cs xs p q r a = refl
   stops-marks [] (m ∷ ms) ns cs xs p q r a = absurd (omega arith)
   stops-marks (i ∷ is) [] ns cs xs p q r a = absurd (omega arith)

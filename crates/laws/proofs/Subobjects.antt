@@ -9,7 +9,7 @@ use mathlib.Core.List.{List, [], ◌∷◌, ◌++◌, map}
 use lib.ListN.{length, get_or, take, length-append}
 use lib.Seq.{get_or-append-add, drop-append-add, drop-append_seam}
 use lib.Dec.{leb}
-use Rattle.model.specs.declared.Verdict.TheVariants.{Pass}
+use Rattle.model.specs.Verdict.{Pass}
 use Rattle.model.specs.declared.ListKind.{ListKind}
 use Rattle.model.specs.Lists.{each}
 use Rattle.model.specs.Bytes.{part}

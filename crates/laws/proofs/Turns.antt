@@ -1,5 +1,6 @@
 -- Checks one after the other (`model`'s Verdict): when they all pass, which refusal is the answer, and how the checks of n records split at record i.
 -- By cases on a verdict and recursion on the number of records.
+use Rattle.std.specs.Prelude.{Ok, Err}
 use Prim.Native.Nat.{ℕ, zero, suc, ◌+◌, ◌-◌, ◌≤◌, ◌<◌}
 use native.Mathlib.Nat.{add-zero, zero-add, add-suc, suc-add, eq-or-lt_of_le}
 use native.Mathlib.Numerals.{add-one}
@@ -8,11 +9,9 @@ use mathlib.Core.Path.{◌≡◌, refl, sym, ap, ◌∙◌}
 use mathlib.Core.Logic.{◌↔◌, ⊎_elim}
 use mathlib.Core.Bool.{Bool, true, false}
 use Rattle.model.specs.declared.Refusal.{Refusal}
-use Rattle.model.specs.declared.Verdict.{Verdict}
-use Rattle.model.specs.declared.Verdict.TheVariants.{Pass, Refuse}
-use Rattle.model.specs.Verdict.{refuse_if, ◌and_then◌, in_turn}
+use Rattle.model.specs.Verdict.{Verdict, Pass, refuse_if, ◌and_then◌, in_turn}
 
-pub refuse_not_pass : (r : Refusal) → Refuse r ≡ Pass → ⊥
+pub refuse_not_pass : (r : Refusal) → Err r ≡ Pass → ⊥
 refuse_not_pass r e = let z : ◌≡◌ {A = ℕ} 0 1 = cc in omega arith
 
 -- a refusal by a test passes exactly when the test fails
@@ -22,25 +21,25 @@ refuse_if_pass false n p = (λ e. refl, λ e. refl)
 
 -- two checks pass exactly when both do
 pub and_then_pass : (a b : Verdict) → (a and_then b ≡ Pass) ↔ ((a ≡ Pass) × (b ≡ Pass))
-and_then_pass Pass b = (λ e. (refl, e), λ e. e.1)
-and_then_pass (Refuse r) b = (λ e. absurd (refuse_not_pass r e), λ e. e.0)
+and_then_pass (Ok _) b = (λ e. (refl, e), λ e. e.1)
+and_then_pass (Err r) b = (λ e. absurd (refuse_not_pass r e), λ e. e.0)
 
 -- the first check passes and leaves the second, or gives the answer
 pub passed_first : (a b : Verdict) → a ≡ Pass → a and_then b ≡ b
 passed_first a b e = ap (λ (v : Verdict). v and_then b) e
 
-pub refused_first : (a b : Verdict) (r : Refusal) → a ≡ Refuse r → a and_then b ≡ Refuse r
+pub refused_first : (a b : Verdict) (r : Refusal) → a ≡ Err r → a and_then b ≡ Err r
 refused_first a b r e = ap (λ (v : Verdict). v and_then b) e
 
 -- nothing more to check
 pub and_then-nothing : (v : Verdict) → v and_then Pass ≡ v
-and_then-nothing Pass = refl
-and_then-nothing (Refuse r) = refl
+and_then-nothing (Ok _) = refl
+and_then-nothing (Err r) = refl
 
 -- a check and then a refusal by a test
 pub and_then-refuse_if : (v : Verdict) (b : Bool) (n p : ℕ) → (v and_then refuse_if b n p ≡ Pass) ↔ ((v ≡ Pass) × (b ≡ false))
-and_then-refuse_if Pass b n p = (λ e. (refl, (refuse_if_pass b n p).0 e), λ e. (refuse_if_pass b n p).1 e.1)
-and_then-refuse_if (Refuse r) b n p = (λ e. absurd (refuse_not_pass r e), λ e. e.0)
+and_then-refuse_if (Ok _) b n p = (λ e. (refl, (refuse_if_pass b n p).0 e), λ e. (refuse_if_pass b n p).1 e.1)
+and_then-refuse_if (Err r) b n p = (λ e. absurd (refuse_not_pass r e), λ e. e.0)
 
 module _ (check : ℕ → Verdict) where
   -- the first of the records, and then the others
@@ -87,5 +86,5 @@ module _ (check : ℕ → Verdict) where
 pub turn_passed : (check : ℕ → Verdict) (i n : ℕ) → i < n → check i ≡ Pass → in_turn check i (n - i) ≡ in_turn check (i + 1) (n - (i + 1))
 turn_passed check i n h e = in_turn_next check i n h ∙ ap (λ (v : Verdict). v and_then in_turn check (suc i) (n - suc i)) e ∙ (rw add-one refl)
 
-pub turn_refused : (check : ℕ → Verdict) (i n : ℕ) (r : Refusal) → i < n → check i ≡ Refuse r → in_turn check i (n - i) ≡ Refuse r
+pub turn_refused : (check : ℕ → Verdict) (i n : ℕ) (r : Refusal) → i < n → check i ≡ Err r → in_turn check i (n - i) ≡ Err r
 turn_refused check i n r h e = in_turn_next check i n h ∙ ap (λ (v : Verdict). v and_then in_turn check (suc i) (n - suc i)) e

@@ -4,8 +4,8 @@ use native.Mathlib.Omega.{arith}
 use mathlib.Core.Path.{◌≡◌, refl, ap, ap₂, ◌∙◌}
 use mathlib.Core.List.{List, [], ◌∷◌, ◌++◌, append-nil}
 use lib.ListN.{length}
+use Rattle.model.specs.Verdict.{Pass}
 use Rattle.model.specs.declared.ListKind.TheVariants.{Include}
-use Rattle.model.specs.declared.Verdict.TheVariants.{Pass}
 use Rattle.model.specs.Lists.{each}
 use Rattle.model.specs.Subobject.{Named, prefix, system, area, stretch, Subobject, subobject_verdict, named_at, after_subobject, form_from, subobjects_from, inside_of}
 use Rattle.model.specs.Sequence.{Waiting, bytes_in, exrs_of}

@@ -1,5 +1,6 @@
 -- A walk along subobjects, as a loop meets it: a right subobject has at least 4 bytes and lies before the end, so the form and the subobjects of what is left from
 -- an offset on are those of the subobject there and of what is left after it. From the laws of a walk along things, up to any end.
+use Rattle.std.specs.Prelude.{Err}
 use Prim.Native.Nat.{ℕ, zero, suc, ◌+◌, ◌-◌, ◌≤◌, ◌<◌}
 use native.Mathlib.Omega.{arith}
 use mathlib.Core.Path.{◌≡◌, refl, sym, ap, subst, ◌∙◌}
@@ -8,9 +9,9 @@ use mathlib.Core.Bool.{Bool, true, false, cond, ◌&&◌, ◌||◌}
 use mathlib.Core.List.{List, [], ◌∷◌, ◌++◌, map}
 use lib.Dec.{eqb, leb, ltb}
 use borrow.Author.Tests.{ltb-true, ltb-false, leb-true, eqb-true}
+use Rattle.model.specs.Verdict.{Pass}
 use Rattle.model.specs.declared.ListKind.{ListKind}
 use Rattle.model.specs.declared.Refusal.{Refusal}
-use Rattle.model.specs.declared.Verdict.TheVariants.{Pass, Refuse}
 use Rattle.model.specs.Lists.{all, any}
 use Rattle.model.specs.Subobject.{LengthRule, length_rules, is_rule, ruled, keeps_rule, length_fits, type_at, length_at, area_length_at, plain_verdict, subobject_verdict, Subobject, subobject_at, after_subobject, form_from, form_verdict, subobjects_from, subobjects}
 use Rattle.laws.specs.Left.{form_left, subobjects_left}
@@ -22,7 +23,6 @@ use Rattle.laws.proofs.Along as Along
 -- ---- a right subobject
 
 rules_least : all (λ (r : LengthRule). leb 4 r.fixed) length_rules ≡ true
-unfolding all
 rules_least = refl
 
 kept-least : (longer : Bool) (m n : ℕ) → cond longer (leb m n) (eqb n m) ≡ true → m ≤ n
@@ -69,7 +69,7 @@ module _ (k : ListKind) (s : List ℕ) (end : ℕ) where
   form-end = Along.checked_end (after_subobject s) end (subobject_verdict k s end) further
 
   module _ (at : ℕ) (h : at < end) where
-    pub form-refused : (r : Refusal) → subobject_verdict k s end at ≡ Refuse r → form_from k s end at ≡ Refuse r
+    pub form-refused : (r : Refusal) → subobject_verdict k s end at ≡ Err r → form_from k s end at ≡ Err r
     form-refused = Along.checked_refused (after_subobject s) end (subobject_verdict k s end) further at h
 
     pub form_next : subobject_verdict k s end at ≡ Pass → form_from k s end at ≡ form_from k s end (after_subobject s at)
@@ -151,12 +151,10 @@ module _ (p : Subobject → Bool) where
   any-start s = ap (any p) (subobjects-whole s)
 
   pub any-end : (s : List ℕ) (end at : ℕ) → end ≤ at → any p (subobjects_from s end at) ≡ false
-  unfolding any
   any-end s end at h = ap (any p) (subobjects-end s end at h)
 
   module _ (k : ListKind) (s : List ℕ) (end at : ℕ) (h : at < end) (e : form_from k s end at ≡ Pass) where
     any_step : any p (subobjects_from s end at) ≡ (p (subobject_at s at) || any p (subobjects_from s end (after_subobject s at)))
-    unfolding any
     any_step = ap (any p) (subobjects_next k s end at h e)
 
     pub any-hit : p (subobject_at s at) ≡ true → any p (subobjects_from s end at) ≡ true

@@ -12,9 +12,9 @@ use lib.ListN.{length, take, replicate, length-append, length-replicate}
 use lib.Seq.{length-take-le, take_at, drop_at, drop-append-add}
 use lib.Dec.{eqb}
 use borrow.Author.Tests.{eq-eqb, le-leb}
+use Rattle.model.specs.Verdict.{Pass}
 use Rattle.model.specs.declared.Domain.{Domain}
 use Rattle.model.specs.declared.ListKind.TheVariants.{Include}
-use Rattle.model.specs.declared.Verdict.TheVariants.{Pass}
 use Rattle.model.specs.Lists.{any, all}
 use Rattle.model.specs.Reserved.{nobodys}
 use Rattle.model.specs.Bytes.{number, bytes_of, all_zero}
@@ -32,7 +32,7 @@ plain-right {s} {end} {at} no_exrs r = both_pass s end at (right_pass r) (ap (λ
 
 -- type 1 has 8 bytes, whatever stands where type 7 has its area's length
 pin-size : (a : ℕ) → length_fits Include 1 a 8 ≡ true
-unfolding length_fits any
+unfolding length_fits
 pin-size a = rw (zero-mul (rounded_up a))
 
 -- ---- type 1: an entry constraint
@@ -41,7 +41,7 @@ abbrev pub pin_item : ℕ → Item
 pin_item node = record { bytes = written_pin (some node); names = prefix node 32 }
 
 pub pin_encoded : (node : ℕ) → node < 2 ^ 32 → Encoded Include (pin_item node)
-unfolding bytes_of named_at known length_fits field_wrong any
+unfolding bytes_of named_at known length_fits field_wrong
 pin_encoded node h =
     record {
       right = λ post. plain-right refl
@@ -67,7 +67,7 @@ abbrev pub system_item : ℕ → Item
 system_item n = record { bytes = written_system n; names = system n }
 
 pub system_encoded : (n : ℕ) → n < 2 ^ 32 → nobodys n ≡ false → Encoded Include (system_item n)
-unfolding bytes_of named_at known length_fits field_wrong any
+unfolding bytes_of named_at known length_fits field_wrong
 system_encoded n h owned =
     let four : (post : List ℕ) → number 4 (written_system n ++ post) 4 ≡ n = λ post. number_shift 4 (5 ∷ 8 ∷ 0 ∷ 0 ∷ []) (bytes_of 4 n ++ post) 0 ∙ number-bytes_of 4 n post h in
     record {
@@ -101,7 +101,7 @@ pub held : (d : Domain) → d.length ≤ length d.area → length (take d.length
 held d h = length-take-le d.length d.area h
 
 ospf_encoded : (d : Domain) → d.kind ≡ 1 → d.length ≡ 4 → length d.area ≡ 13 → Encoded Include (area_item 1 d)
-unfolding named_at known length_fits field_wrong any
+unfolding named_at known length_fits field_wrong
 ospf_encoded d k l h =
     let bytes = take d.length d.area in
     let n : length bytes ≡ 4 = held d (omega arith) ∙ l in
@@ -123,12 +123,12 @@ ospf_encoded d k l h =
     }
 
 all_zero_lem : (n : ℕ) → all_zero (replicate n 0) ≡ true
-unfolding all_zero all
+unfolding all_zero
 all_zero_lem zero = refl
 all_zero_lem (suc n) = all_zero_lem n
 
 isis_size : (n : ℕ) → length_fits Include 7 n (4 + rounded_up n) ≡ true
-unfolding length_fits any
+unfolding length_fits
 isis_size n = rw (one-mul (rounded_up n), eq-eqb (4 + rounded_up n) (4 + rounded_up n) refl)
 
 -- what stands between an area of n bytes and r is zero
@@ -139,7 +139,7 @@ isis-padding n r bytes post e h =
     rw (left, drop-append-add (7 ∷ (4 + r) ∷ n ∷ 0 ∷ []) (bytes ++ replicate (r - n) 0 ++ post) n, append_assoc bytes (replicate (r - n) 0) post, drop_at bytes (replicate (r - n) 0 ++ post) n e, take_at (replicate {A = ℕ} (r - n) 0) post (r - n) (length-replicate (r - n) 0), all_zero_lem (r - n))
 
 isis_encoded : (d : Domain) → d.kind ≡ 2 → 1 ≤ d.length → d.length ≤ 13 → length d.area ≡ 13 → Encoded Include (area_item 2 d)
-unfolding named_at known length_fits field_wrong any
+unfolding named_at known length_fits field_wrong
 isis_encoded d k low high h =
     let bytes : List ℕ = take d.length d.area in
     let padding : List ℕ = replicate (rounded_up d.length - d.length) 0 in

@@ -11,8 +11,8 @@ use lib.ListN.{length, get_or, drop, length-append, length-drop}
 use lib.Seq.{length-take-le}
 use lib.Dec.{eqb}
 use borrow.Author.Tests.{eqb-true, ne_eqb, not-false}
+use Rattle.model.specs.Verdict.{Pass}
 use Rattle.model.specs.declared.Domain.{Domain}
-use Rattle.model.specs.declared.Verdict.TheVariants.{Pass}
 use Rattle.model.specs.declared.ListKind.TheVariants.{Include}
 use Rattle.model.specs.Lists.{all, each, sum}
 use Rattle.model.specs.Subobject.{Named, Subobject, type_at, named_at, after_subobject, form_from, subobjects_from}
@@ -95,7 +95,6 @@ only_exrs s at = all (λ (x : Subobject). is_exrs x.names) (subobjects_from s (l
 
 module _ (s : List ℕ) (at : ℕ) (h : at < length s) (e : form_from Include s (length s) at ≡ Pass) where
   only_step : only_exrs s at ≡ is_exrs (named_at s at) && only_exrs s (after_subobject s at)
-  unfolding all
   only_step = ap (all (λ (x : Subobject). is_exrs x.names)) (subobjects_next Include s (length s) at h e)
 
   pub only_not : (type_at s at ≡ 33 → ⊥) → only_exrs s at ≡ false
@@ -105,5 +104,4 @@ module _ (s : List ℕ) (at : ℕ) (h : at < length s) (e : form_from Include s 
   only_next t = only_step ∙ ap (λ (n : Named). is_exrs n && only_exrs s (after_subobject s at)) (named_33 s at t)
 
 pub only_end : (s : List ℕ) (at : ℕ) → length s ≤ at → only_exrs s at ≡ true
-unfolding all
 only_end s at h = ap (all (λ (x : Subobject). is_exrs x.names)) (subobjects-end s (length s) at h)

@@ -1,7 +1,7 @@
 -- The EXRS among the subobjects of an include list, and what they say, as code meets them: in the list, from an offset up to another.
 use Rattle.std.specs.Prelude.{◌≡◌, List, [], ◌∷◌, ℕ, ◌≤◌, length}
+use Rattle.model.specs.Verdict.{Pass}
 use Rattle.model.specs.declared.ListKind.TheVariants.{Include}
-use Rattle.model.specs.declared.Verdict.TheVariants.{Pass}
 use Rattle.model.specs.Lists.{each}
 use Rattle.model.specs.Subobject.{Named, prefix, system, area, stretch, Subobject, form_from, subobjects_from, inside_of}
 use Rattle.model.specs.Sequence.{Waiting, waiting_for, entry, exclusions}

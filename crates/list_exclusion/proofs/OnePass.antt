@@ -5,8 +5,8 @@ use mathlib.Core.Path.{◌≡◌, refl, sym, ◌∙◌}
 use mathlib.Core.Bool.{Bool, true, false}
 use mathlib.Core.List.{List}
 use lib.ListN.{length}
+use Rattle.model.specs.Verdict.{Pass}
 use Rattle.model.specs.declared.ListKind.{ListKind}
-use Rattle.model.specs.declared.Verdict.TheVariants.{Pass}
 use Rattle.model.specs.Lists.{any}
 use Rattle.model.specs.Subobject.{Subobject, subobject_at, subobject_verdict, after_subobject, form_from, subobjects_from}
 use Rattle.laws.proofs.Walk.{right_here, right_next, right_subobject, any-end, any-hit, any-more}

@@ -21,7 +21,7 @@ use Rattle.list_exclusion.specs.declared.exrs.Sought.{Sought}
 use Rattle.list_exclusion.specs.Sought.{found_by, found_in}
 
 any_each : {A B : Type 0} (p : B → Bool) (f : A → List B) (xs : List A) → any p (each f xs) ≡ any (λ (x : A). any p (f x)) xs
-unfolding any each
+unfolding each
 any_each p f [] = refl
 any_each p f (x ∷ xs) = any_append p (f x) (each f xs) ∙ ap (λ (b : Bool). any p (f x) || b) (any_each p f xs)
 
@@ -49,11 +49,9 @@ module _ (q : Sought) where
   carries x = found_in q (inside_of x.names)
 
   pub nothing-found : found_in q [] ≡ false
-  unfolding any
   nothing-found = found-is []
 
   any_alike : {A : Type 0} (p r : A → Bool) (xs : List A) → ((x : A) → p x ≡ r x) → any p xs ≡ any r xs
-  unfolding any
   any_alike p r [] h = refl
   any_alike p r (x ∷ xs) h = λ i. h x i || any_alike p r xs h i
 

@@ -1,7 +1,7 @@
 // What the EXRS of a stretch of an include list take away in a round, and whether an exclusion in one of them is only desired. The stretch is of right form, from an
 // offset of the list up to another.
 ghost use Rattle.std.specs.Prelude.{◌≡◌, ◌≤◌, length};
-ghost use Rattle.model.specs.declared.Verdict.TheVariants.{Pass};
+ghost use Rattle.model.specs.Verdict.{Pass};
 ghost use Rattle.model.specs.declared.ListKind.TheVariants.{Include, Exclude};
 ghost use Rattle.model.specs.Subobject.{subobject_verdict, named_at, after_subobject, inside_of, subobjects, form_verdict};
 ghost use Rattle.laws.specs.Exrs.{Stretch, carried_in};

@@ -2,7 +2,7 @@
 #![tactic(auto)]
 
 ghost use Rattle.std.specs.Prelude.{◌≡◌, ◌&&◌, List, ℕ, ◌-◌, ◌≤◌};
-ghost use Rattle.model.specs.declared.Verdict.TheVariants.{Pass};
+ghost use Rattle.model.specs.Verdict.{Pass};
 ghost use Rattle.model.specs.declared.ListKind.TheVariants.{Exclude};
 ghost use Rattle.model.specs.Subobject.{form_verdict, subobjects};
 ghost use Rattle.model.specs.Exclusion.{counts as counts_in, in_force, some_desired, in_prefix, takes_domain, takes_node, excluded_domain, excluded_node};

@@ -1,6 +1,6 @@
 // What counts at one place of a path: the exclude list, and the EXRS of the domain there, which stand in a stretch of the include list.
 ghost use Rattle.std.specs.Prelude.{◌≡◌, ◌≤◌};
-ghost use Rattle.model.specs.declared.Verdict.TheVariants.{Pass};
+ghost use Rattle.model.specs.Verdict.{Pass};
 ghost use Rattle.model.specs.declared.ListKind.TheVariants.{Exclude};
 ghost use Rattle.model.specs.Subobject.{form_verdict};
 ghost use Rattle.model.specs.Exclusion.{some_desired, excluded_domain, excluded_node};

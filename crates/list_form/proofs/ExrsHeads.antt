@@ -12,23 +12,23 @@ use Rattle.list_form.specs.Checks.{head_wrong}
 
 -- any length from 4 on fits
 exrs-fits : (area n : ℕ) → length_fits Include 33 area n ≡ leb 4 n
-unfolding length_fits any
+unfolding length_fits
 exrs-fits area n = or-false (leb (4 + 0 * rounded_up area) n) ∙ (rw (zero-mul (rounded_up area)) refl)
 
 module _ (first n area : ℕ) (type : first % 128 ≡ 33) where
   pub unknown : head_wrong Exclude first n area ≡ 24
-  unfolding head_wrong known any
+  unfolding head_wrong known
   unknown = rw type refl
 
   pub marked : 128 ≤ first → head_wrong Include first n area ≡ 27
-  unfolding head_wrong known any
+  unfolding head_wrong known
   marked h = rw (type, le-leb 128 first h) refl
 
   module _ (clear : first < 128) where
     pub too_short : n < 4 → head_wrong Include first n area ≡ 25
-    unfolding head_wrong known any
+    unfolding head_wrong known
     too_short h = rw (type, lt-leb 128 first clear, exrs-fits area n, lt-leb 4 n h) refl
 
     pub fine : 4 ≤ n → head_wrong Include first n area ≡ 0
-    unfolding head_wrong known any
+    unfolding head_wrong known
     fine h = rw (type, lt-leb 128 first clear, exrs-fits area n, le-leb 4 n h) refl

@@ -8,9 +8,7 @@ use lib.Dec.{eqb, leb, ltb}
 use lib.ListN.{get_or}
 use borrow.Author.Tests.{ne_eqb, lt-ltb, le-ltb}
 use Rattle.model.specs.declared.ListKind.{ListKind}
-use Rattle.model.specs.declared.Verdict.{Verdict}
-use Rattle.model.specs.declared.Verdict.TheVariants.{Pass}
-use Rattle.model.specs.Verdict.{refuse_if, ◌and_then◌}
+use Rattle.model.specs.Verdict.{Verdict, Pass, refuse_if, ◌and_then◌}
 use Rattle.model.specs.Reserved.{nobodys}
 use Rattle.model.specs.Bytes.{number, part, all_zero}
 use Rattle.model.specs.Subobject.{plain_verdict, known, length_fits, top_wrong, prefix_wrong, padding_wrong, field_wrong, type_at, top_at, length_at, area_length_at}

@@ -14,12 +14,12 @@ use Rattle.laws.proofs.Words.{part_cons}
 use Rattle.list_form.specs.Checks.{zero_from}
 
 pub zero_end : (s : List ℕ) (t : ℕ) → zero_from s t t ≡ true
-unfolding all_zero all
+unfolding all_zero
 zero_end s t = rw sub_self refl
 
 module _ (s : List ℕ) (i t : ℕ) (h : i < t) (k : t ≤ length s) where
   zero_step : zero_from s i t ≡ (eqb 0 (get_or s i 0) && zero_from s (suc i) t)
-  unfolding all_zero all
+  unfolding all_zero
   zero_step =
       let left : t - i ≡ suc (t - suc i) = omega arith in
       ap (λ (n : ℕ). all_zero (part s i n)) left ∙ ap all_zero (part_cons s i (t - suc i) (omega arith))

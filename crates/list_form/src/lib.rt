@@ -2,8 +2,8 @@
 #![tactic(auto)]
 
 ghost use Rattle.std.specs.Prelude.{◌≡◌, ◌≢◌, ℕ, ◌+◌, ◌%◌, ◌≤◌, ◌<◌, length, eqb, leb, not, ◌&&◌};
+ghost use Rattle.model.specs.Verdict.{Pass};
 ghost use Rattle.model.specs.declared.ListKind.TheVariants.{Include, Exclude};
-ghost use Rattle.model.specs.declared.Verdict.TheVariants.{Pass};
 ghost use Rattle.model.specs.Subobject.{rounded_up, type_at, plain_verdict, carried_if, subobject_verdict, form_from, form_verdict, top_wrong, prefix_wrong, field_wrong};
 ghost use Rattle.list_subobject.specs.Lengths.{length_of};
 ghost use Rattle.list_subobject.specs.Items.{Readable};

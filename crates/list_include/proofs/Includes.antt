@@ -10,6 +10,7 @@ use mathlib.Core.Logic.{⊎_elim}
 use borrow.Author.Tests.{ne_eqb, eqb-true, eqb-false}
 use Rattle.laws.proofs.Tests.{decide}
 use Rattle.list_subobject.proofs.FormLaws.{named_6, named_7}
+use Rattle.model.specs.Verdict.{Pass}
 use Rattle.model.specs.Bytes.{number, part}
 use Rattle.model.specs.Lists.{count_from, each}
 use Rattle.model.specs.Along.{places_along}
@@ -31,7 +32,6 @@ use Rattle.laws.proofs.Along.{places_first}
 use Rattle.laws.proofs.Walk.{subobjects-end, subobjects_next, subobjects-whole}
 use Rattle.model.specs.declared.Refusal.{Refusal}
 use Rattle.model.specs.declared.ListKind.TheVariants.{Include}
-use Rattle.model.specs.declared.Verdict.TheVariants.{Pass}
 use Rattle.laws.specs.Stops.{stops_of}
 use Rattle.list_subobject.specs.declared.item.Item.{Item}
 use Rattle.list_subobject.specs.Items.{ItemAt}

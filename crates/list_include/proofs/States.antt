@@ -11,6 +11,7 @@ use native.Mathlib.Omega.{arith}
 use lib.ListN.{length, get_or, set, length-set}
 use lib.Seq.{get_or-set_same, get_or-set_other}
 use lib.Dec.{eqb}
+use Rattle.model.specs.Verdict.{Pass}
 use Rattle.model.specs.declared.DomainIndex.{DomainIndex}
 use Rattle.model.specs.declared.NodeAddress.{NodeAddress}
 use Rattle.model.specs.Lists.{count_from, among}
@@ -23,7 +24,6 @@ use Rattle.laws.proofs.Lists.{map_agree, map-append, map_mem, mem-map, count_fro
 use Rattle.laws.proofs.Stops.{stops-length}
 use borrow.Author.Tests.{eq-eqb, ne_eqb, eqb-true, le-leb, lt-leb}
 use Rattle.model.specs.declared.Refusal.{Refusal}
-use Rattle.model.specs.declared.Verdict.TheVariants.{Pass}
 use Rattle.laws.specs.Exrs.{exrs_in, waiting_in, Stretch}
 use Rattle.laws.specs.Stops.{stops_of, stretch_start, domain_in, node_in}
 use Rattle.laws.proofs.Waiting.{nothing-waits, exrs-waiting, empty_stretch}

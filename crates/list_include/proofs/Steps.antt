@@ -1,11 +1,11 @@
 -- One subobject read: what of it waits is behind what waited before, and a step that is made where it stands is one past it where nothing of it waits.
+use Rattle.std.specs.Prelude.{Ok, Err}
 use mathlib.Core.Path.{◌≡◌, refl, sym, ap, subst, ◌∙◌}
 use mathlib.Core.List.{List, [], ◌++◌}
 use Prim.Native.Nat.{ℕ}
 use native.Mathlib.Omega.{arith}
 use lib.ListN.{length}
-use Rattle.model.specs.declared.Verdict.{Verdict}
-use Rattle.model.specs.declared.Verdict.TheVariants.{Pass, Refuse}
+use Rattle.model.specs.Verdict.{Verdict}
 use Rattle.model.specs.Subobject.{Named}
 use Rattle.model.specs.Sequence as M
 use Rattle.model.specs.Request.{provided}
@@ -47,7 +47,7 @@ module _ (s : List ℕ) (it : Item) (here : ItemHere s it) where
 
       go : (v : Verdict) → r.verdict ≡ v
           → provided r.verdict (M.good (state_of s it.next r.state)) ≡ provided r.verdict (M.good (state_of s it.offset r.state))
-      go Pass e = let x = is.sound e in ap (λ (y : M.State). provided r.verdict (M.good y)) (on x.0 x.1).means
-      go (Refuse x) e =
+      go (Ok _) e = let x = is.sound e in ap (λ (y : M.State). provided r.verdict (M.good y)) (on x.0 x.1).means
+      go (Err x) e =
           ap (λ (v : Verdict). provided v (M.good (state_of s it.next r.state))) e
           ∙ sym (ap (λ (v : Verdict). provided v (M.good (state_of s it.offset r.state))) e)

@@ -1,9 +1,9 @@
 -- What the code's state of a reading stands for, over the definitions of `model`.
-use Rattle.std.specs.Prelude.{◌≡◌, List, [], ◌∷◌, ◌++◌, ℕ, ◌-◌, ◌≤◌, ◌<◌, length, get_or, replicate}
+use Rattle.std.specs.Prelude.{◌≡◌, List, [], ◌∷◌, ◌++◌, ℕ, ◌-◌, ◌≤◌, ◌<◌, length, get_or, replicate, Err}
 use Rattle.std.proofs.Math.Option.{Option, none, some}
+use Rattle.model.specs.Verdict.{Pass}
 use Rattle.model.specs.declared.NodeAddress.{NodeAddress}
 use Rattle.model.specs.declared.Refusal.{Refusal}
-use Rattle.model.specs.declared.Verdict.TheVariants.{Pass, Refuse}
 use Rattle.model.specs.declared.ListKind.TheVariants.{Include}
 use Rattle.model.specs.Subobject.{Subobject, subobject_verdict}
 use Rattle.model.specs.Sequence as M
@@ -123,7 +123,7 @@ with_waiting st mark node waiting =
 abbrev pub refused_by : Refusal → ReadStep
 refused_by x =
     record {
-      verdict = Refuse x;
+      verdict = Err x;
       state =
           record {
             asn = 0;
@@ -142,7 +142,7 @@ refused_by x =
 pub record ReadAs {A : Type 0} (Holds : State → Type 0) (read : State → A) (r : ReadStep) (m : M.Reading A) : Type 0 where
   pub means : provided r.verdict (M.good (read r.state)) ≡ m
   pub sound : r.verdict ≡ Pass → SoundState r.state × Holds r.state
-  pub none : (x : Refusal) → r.verdict ≡ Refuse x → r ≡ refused_by x
+  pub none : (x : Refusal) → r.verdict ≡ Err x → r ≡ refused_by x
 
 -- a step: refused, or a state that stands for the next one where the reading has come to an offset
 abbrev pub ReadStepIs : List ℕ → ℕ → ReadStep → M.Reading M.State → Type 0

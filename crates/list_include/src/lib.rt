@@ -3,8 +3,8 @@
 #![tactic(auto)]
 
 ghost use Rattle.std.specs.Prelude.{◌≡◌, List, ℕ, ◌≤◌, ◌<◌, length};
+ghost use Rattle.model.specs.Verdict.{Pass};
 ghost use Rattle.model.specs.declared.ListKind.TheVariants.{Include};
-ghost use Rattle.model.specs.declared.Verdict.TheVariants.{Pass};
 ghost use Rattle.model.specs.Profile.{domain_count};
 ghost use Rattle.model.specs.Subobject.{form_verdict};
 ghost use Rattle.model.specs.Sequence.{read_system, read_one, area_next, start_in, finish, meaning};

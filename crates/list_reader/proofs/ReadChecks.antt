@@ -1,4 +1,5 @@
 -- The checks of `read_include` before the meaning of the list, one after the other. By putting each verdict in its place.
+use Rattle.std.specs.Prelude.{Err}
 use mathlib.Core.Path.{◌≡◌, refl, ap, ◌∙◌}
 use mathlib.Core.Bool.{true, false}
 use mathlib.Core.List.{List}
@@ -7,9 +8,7 @@ use lib.ListN.{length}
 use lib.Dec.{leb, ltb}
 use Rattle.model.specs.declared.Refusal.{Refusal}
 use Rattle.model.specs.declared.ListKind.TheVariants.{Include}
-use Rattle.model.specs.declared.Verdict.{Verdict}
-use Rattle.model.specs.declared.Verdict.TheVariants.{Pass, Refuse}
-use Rattle.model.specs.Verdict.{◌and_then◌}
+use Rattle.model.specs.Verdict.{Verdict, Pass, ◌and_then◌}
 use Rattle.model.specs.Profile.{domain_count, verdict_on}
 use Rattle.model.specs.Subobject.{form_verdict}
 use Rattle.model.specs.Request.{ingress_verdict, size_verdict}
@@ -19,7 +18,7 @@ use Rattle.refusal.specs.Refused.{refusal}
 use Rattle.list_reader.specs.ReadInclude.{read_verdict}
 
 module _ (P : List ℕ) (i : ℕ) (L : List ℕ) where
-  pub profile-refused : (r : Refusal) → verdict_on P ≡ Refuse r → read_verdict P i L ≡ Refuse r
+  pub profile-refused : (r : Refusal) → verdict_on P ≡ Err r → read_verdict P i L ≡ Err r
   profile-refused r e = ap (λ (v : Verdict). v and_then ingress_verdict P i and_then size_verdict L 0 and_then form_verdict Include L) e
 
   module _ (e : verdict_on P ≡ Pass) where

@@ -1,12 +1,12 @@
 -- What `read_include` has to answer and leave, by how the reading ends: refused, too little capacity, or a sequence in the buffers.
+use Rattle.std.specs.Prelude.{Err}
 use mathlib.Core.Path.{◌≡◌, refl, sym, ap, subst, ◌∙◌}
 use mathlib.Core.List.{List, map}
 use Prim.Native.Nat.{ℕ, ◌≤◌, ◌<◌}
 use lib.ListN.{length}
 use borrow.Author.Tests.{lt-ltb, le-ltb}
+use Rattle.model.specs.Verdict.{Verdict, Pass}
 use Rattle.model.specs.declared.Refusal.{Refusal}
-use Rattle.model.specs.declared.Verdict.{Verdict}
-use Rattle.model.specs.declared.Verdict.TheVariants.{Pass, Refuse}
 use Rattle.model.specs.declared.ReadAnswer.{ReadAnswer}
 use Rattle.model.specs.declared.ReadAnswer.TheVariants.{Read, Refused}
 use Rattle.model.specs.Lists.{each, over}
@@ -20,7 +20,7 @@ use Rattle.list_reader.specs.ReadInclude.{read_verdict, SequenceIn, ExrsIn, Read
 -- ---- how the reading ends
 
 module _ (P : List ℕ) (i : ℕ) (L : List ℕ) where
-  pub checks_refused : (r : Refusal) → read_verdict P i L ≡ Refuse r → reading_of P i L ≡ M.refused r
+  pub checks_refused : (r : Refusal) → read_verdict P i L ≡ Err r → reading_of P i L ≡ M.refused r
   unfolding reading_of
   checks_refused r e = ap (λ (v : Verdict). provided v (M.meaning (reading_input P) i L)) e
 

@@ -2,9 +2,8 @@
 use Rattle.std.specs.Prelude.{◌≡◌, List, map, ℕ, ◌-◌, ◌≤◌, length}
 use Rattle.model.specs.declared.ListKind.TheVariants.{Include}
 use Rattle.model.specs.declared.ReadAnswer.{ReadAnswer}
-use Rattle.model.specs.declared.Verdict.{Verdict}
 use Rattle.model.specs.Lists.{over}
-use Rattle.model.specs.Verdict.{◌and_then◌}
+use Rattle.model.specs.Verdict.{Verdict, ◌and_then◌}
 use Rattle.model.specs.Profile.{verdict_on}
 use Rattle.model.specs.Bytes.{part}
 use Rattle.model.specs.Subobject.{form_verdict, named_at}

@@ -8,8 +8,8 @@ use lib.Dec.{eqb}
 use mathlib.Core.Bool.{false}
 use borrow.Author.Tests.{ne_eqb}
 use Rattle.laws.proofs.Walk.{right_subobject}
+use Rattle.model.specs.Verdict.{Pass}
 use Rattle.model.specs.declared.ListKind.{ListKind}
-use Rattle.model.specs.declared.Verdict.TheVariants.{Pass}
 use Rattle.model.specs.Bytes.{number, part}
 use Rattle.model.specs.Subobject.{subobject_verdict, type_at, length_at, area_length_at, rounded_up, named_at, prefix, system, area}
 use Rattle.list_subobject.specs.Items.{Readable}

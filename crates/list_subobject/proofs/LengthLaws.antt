@@ -34,7 +34,7 @@ by_type P p1 p5 p6 p7 p32 other t =
     (decide (eqb t 1))
 
 pub fits-length : (k : ListKind) (a n t : ℕ) → eqb t 33 ≡ false → length_fits k t a n ≡ (known k t && eqb n (length_of k t a))
-unfolding length_fits known length_of length_in any
+unfolding length_fits known length_of length_in
 fits-length k a n =
     by_type (λ (t : ℕ). eqb t 33 ≡ false → length_fits k t a n ≡ (known k t && eqb n (length_of k t a)))
     (λ e. or-false _)
@@ -45,7 +45,7 @@ fits-length k a n =
     (λ t e1 e5 e6 e7 e32 e33. rw (e1, e5, e6, e7, e32, e33) refl)
 
 pub known-length : (k : ListKind) (a t : ℕ) → eqb t 33 ≡ false → known k t ≡ not (eqb (length_of k t a) 0)
-unfolding known length_of length_in any
+unfolding known length_of length_in
 known-length k a =
     by_type (λ (t : ℕ). eqb t 33 ≡ false → known k t ≡ not (eqb (length_of k t a) 0))
     (λ z. rw (ne_eqb (8 + 0 * rounded_up a) 0 (λ e. omega arith)) refl)

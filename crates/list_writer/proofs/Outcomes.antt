@@ -1,4 +1,5 @@
 -- The outcomes of `write_list`: the profile's refusal, 35, 34, or the list. By which of the checks of `write_list` refuses.
+use Rattle.std.specs.Prelude.{Err}
 use Prim.Native.Nat.{ℕ, ◌≤◌, ◌<◌}
 use native.Mathlib.Omega.{arith}
 use mathlib.Core.Path.{◌≡◌, refl, sym, ap, ◌∙◌}
@@ -8,12 +9,10 @@ use lib.Dec.{ltb}
 use lib.ListN.{length}
 use borrow.Author.Tests.{eq-eqb, lt-ltb, le-ltb}
 use Rattle.model.specs.declared.Refusal.{Refusal}
-use Rattle.model.specs.declared.Verdict.{Verdict}
-use Rattle.model.specs.declared.Verdict.TheVariants.{Pass, Refuse}
 use Rattle.model.specs.declared.WriteAnswer.{WriteAnswer}
 use Rattle.model.specs.declared.WriteAnswer.TheVariants.{Written, Refused}
 use Rattle.model.specs.Lists.{over}
-use Rattle.model.specs.Verdict.{refuse_if, ◌and_then◌}
+use Rattle.model.specs.Verdict.{Verdict, Pass, refuse_if, ◌and_then◌}
 use Rattle.model.specs.Profile.{domains, verdict_on}
 use Rattle.model.specs.WrittenList.{stops, written, unfit, unwritable}
 use Rattle.model.specs.Answers.{numbers_of_write, refused2, done2}
@@ -48,8 +47,8 @@ module _ (profile indexes marks nodes counts exrs : List ℕ) where
         → WrittenBy profile indexes marks nodes counts exrs entry entry (Refused r)
     refused r e = by_outcome entry entry (Refused r) (nothing (refused2 r)) e refl (sym (over_nothing entry))
 
-    pub refused-profile : (r : Refusal) → verdict_on profile ≡ Refuse r → WrittenBy profile indexes marks nodes counts exrs entry entry (Refused r)
-    refused-profile r e = refused r (outcome_by (length entry) (Refuse r) _ _ e refl refl)
+    pub refused-profile : (r : Refusal) → verdict_on profile ≡ Err r → WrittenBy profile indexes marks nodes counts exrs entry entry (Refused r)
+    refused-profile r e = refused r (outcome_by (length entry) (Err r) _ _ e refl refl)
 
     module _ (e : verdict_on profile ≡ Pass) where
       pub refused-sequence : unwritable (domains profile) indexes marks nodes counts exrs ≡ true → WrittenBy profile indexes marks nodes counts exrs entry entry (refused_by 35)

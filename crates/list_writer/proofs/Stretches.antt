@@ -62,7 +62,7 @@ none_broken counts exrs i h = rw (drop_of_length-le counts h) refl
 -- of the sequence that the lists stand for
 stops_broken : (is ms ns cs xs : List ℕ) → length ms ≡ length is → length ns ≡ length is → length cs ≡ length is
     → any (λ (p : Stop). not (whole_exrs p.exrs)) (stops is ms ns cs xs) ≡ some_part_broken cs xs
-unfolding stops any some_part_broken
+unfolding stops some_part_broken
 stops_broken [] ms ns [] xs p q r = refl
 stops_broken [] ms ns (c ∷ cs) xs p q r = absurd (omega arith)
 stops_broken (i ∷ is) [] ns cs xs p q r = absurd (omega arith)

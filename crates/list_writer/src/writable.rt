@@ -1,7 +1,7 @@
 // When a sequence can't be written: check 35.
 ghost use Rattle.std.specs.Prelude.{◌≡◌, not, ◌||◌, ℕ, ◌+◌, ◌≤◌, ◌<◌, length, drop, leb, ltb};
+ghost use Rattle.model.specs.Verdict.{Pass};
 ghost use Rattle.model.specs.declared.ListKind.TheVariants.{Include};
-ghost use Rattle.model.specs.declared.Verdict.TheVariants.{Pass};
 ghost use Rattle.model.specs.Lists.{all, among, any, all_different, sum};
 ghost use Rattle.model.specs.Profile.{domains, verdict_on};
 ghost use Rattle.model.specs.Subobject.{Subobject, form_verdict, subobjects};

@@ -1,6 +1,6 @@
 // `write_list`: the list of a sequence of domains with their entry constraints and EXRS.
 ghost use Rattle.std.specs.Prelude.{◌≡◌, ◌+◌, ◌≤◌, ◌<◌, length};
-ghost use Rattle.model.specs.declared.Verdict.TheVariants.{Pass};
+ghost use Rattle.model.specs.Verdict.{Pass};
 ghost use Rattle.model.specs.Lists.{over};
 ghost use Rattle.model.specs.Profile.{domains, verdict_on};
 ghost use Rattle.model.specs.WrittenList.{stops, written};

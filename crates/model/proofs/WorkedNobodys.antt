@@ -231,5 +231,5 @@ table = files ++ includes ++ excludes ++ writes
 
 -- every row holds
 pub worked-nobodys : map (λ (r : Row). outcome r.case) table ≡ map (λ (r : Row). r.expected) table
-unfolding domain live as_first as_second as_third zero4 one4 two4 below4 trans4 above4 reserved4 low4 high4 system zero2 below2 trans2 above2 short long file listed asked given files includes excludes writes table not_q to64496 to64497 to64498 pin_u area0 unread unwritten profile_w to_end without plain on_w outcome numbers row count_from keep all any each among all_different sum least same below insert different over number bytes_of all_zero in_turn in_ranges misplaced nobodys Profile.header_wrong Profile.counts_wrong Profile.length_wrong Profile.header_verdict Profile.domain_at Profile.domains Profile.area_length_fits Profile.domain_malformed Profile.domain_misordered Profile.domain_verdict Profile.hop_at Profile.hops Profile.hop_malformed Profile.hop_misordered Profile.hop_verdict Profile.entry_nodes Profile.crowded Profile.crowded_verdict Profile.profile_verdict Subobject.known Subobject.length_fits Subobject.field_wrong Subobject.plain_verdict Subobject.carried_verdict Subobject.subobject_verdict Subobject.named_at checked_along places_along Subobject.form_verdict Subobject.subobjects Subobject.carried exrs_of of_system of_area enter name read_one read_all meaning written_from written stops whole_exrs unfit unwritable in_force some_desired excluded_domain excluded_node units in_range at_least at_most float_of request_verdict sequence_of all_exclusions search_in round_of search_of Path.legs Path.keeps_bound Path.exclusions_at Path.allowed Path.hops_from Path.suffixes Path.paths Path.admissible Path.cheapest Path.shortest_paths Tree.entries_at Tree.entry Tree.tree Tree.tally reading_of all_exrs read_include write_list build_tree first greater_than next book run of_bits to_bits of_fields odd size span climb of_int round is_nan Ieee.units count_trailing_zeros Profile.layout_in
+unfolding domain live as_first as_second as_third zero4 one4 two4 below4 trans4 above4 reserved4 low4 high4 system zero2 below2 trans2 above2 short long file listed asked given files includes excludes writes table not_q to64496 to64497 to64498 pin_u area0 unread unwritten profile_w to_end without plain on_w outcome numbers row count_from keep each among all_different sum least same below insert different over number bytes_of all_zero in_turn in_ranges misplaced nobodys Profile.header_wrong Profile.counts_wrong Profile.length_wrong Profile.header_verdict Profile.domain_at Profile.domains Profile.area_length_fits Profile.domain_malformed Profile.domain_misordered Profile.domain_verdict Profile.hop_at Profile.hops Profile.hop_malformed Profile.hop_misordered Profile.hop_verdict Profile.entry_nodes Profile.crowded Profile.crowded_verdict Profile.profile_verdict Subobject.known Subobject.length_fits Subobject.field_wrong Subobject.plain_verdict Subobject.carried_verdict Subobject.subobject_verdict Subobject.named_at checked_along places_along Subobject.form_verdict Subobject.subobjects Subobject.carried exrs_of of_system of_area enter name read_one read_all meaning written_from written stops whole_exrs unfit unwritable in_force some_desired excluded_domain excluded_node units in_range at_least at_most float_of request_verdict sequence_of all_exclusions search_in round_of search_of Path.legs Path.keeps_bound Path.exclusions_at Path.allowed Path.hops_from Path.suffixes Path.paths Path.admissible Path.cheapest Path.shortest_paths Tree.entries_at Tree.entry Tree.tree Tree.tally reading_of all_exrs read_include write_list build_tree first greater_than next book run of_bits to_bits of_fields odd size span climb of_int round is_nan Ieee.units count_trailing_zeros Profile.layout_in
 worked-nobodys = refl

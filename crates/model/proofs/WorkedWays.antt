@@ -45,7 +45,6 @@ on_w pin exrs exclusions bits =
 -- ---- a step is made by a hop record that passes this test
 
 found : {A : Type 0} (p : A → Bool) {x : A} {xs : List A} → Memᴰ x xs → p x ≡ true → any p xs ≡ true
-unfolding any
 found p {x = x} {xs = []} m t = elim m [ ]
 found p {x = x} {xs = y ∷ ys} (Memᴰ.head e) t = left (p y) (any p ys) (subst (λ z. p z ≡ true) e t)
   where
@@ -72,7 +71,7 @@ step_found S leg a b s =
 
 -- no hop record from Q to U has a bandwidth above 100.0
 none-wide : any (λ (h : Hop). leads (leg_at (on_w none [] [] 0x42c80001) 1) 0xc000020c 0xc0000216 h && usable (on_w none [] [] 0x42c80001) h) (on_w none [] [] 0x42c80001).hops ≡ false
-unfolding on_w profile_w legs layout_in hops hop_at count_from number any at_least units of_bits of_fields odd size span climb is_nan Ieee.units count_trailing_zeros
+unfolding on_w profile_w legs layout_in hops hop_at count_from number at_least units of_bits of_fields odd size span climb is_nan Ieee.units count_trailing_zeros
 none-wide = refl
 
 -- so SQUZ is no path where a bandwidth just above 100.0 is asked for
@@ -92,14 +91,14 @@ abbrev as64498 : Subobject
 as64498 = record { offset = 0; top = false; names = system 64498 }
 
 pub domain_excluded : IsWay (on_w none [] (as64498 ∷ []) 0x42c80000) 2 0xc0000215 (0xc0000215 ∷ 0xc0000263 ∷ []) → ⊥
-unfolding on_w exclusions_at excluded_domain any profile_w domains domain_at count_from number
+unfolding on_w exclusions_at excluded_domain profile_w domains domain_at count_from number
 domain_excluded x = true≢false (x.domains 0 (omega arith))
 
 abbrev entry_t : Subobject
 entry_t = record { offset = 0; top = false; names = prefix 0xc0000215 32 }
 
 pub entry_excluded : IsWay (on_w none [] (entry_t ∷ []) 0x42c80000) 2 0xc0000215 (0xc0000215 ∷ 0xc0000263 ∷ []) → ⊥
-unfolding on_w exclusions_at excluded_node any
+unfolding on_w exclusions_at excluded_node
 entry_excluded x = true≢false (x.nodes 0 (omega arith))
 
 -- nor where an EXRS of domain 2 takes that entry, or the domain
@@ -107,12 +106,12 @@ abbrev exrs_t : List ℕ
 exrs_t = 0x21 ∷ 0x0c ∷ 0x00 ∷ 0x00 ∷ 0x01 ∷ 0x08 ∷ 0xc0 ∷ 0x00 ∷ 0x02 ∷ 0x15 ∷ 0x20 ∷ 0x01 ∷ []
 
 pub entry-without : IsWay (on_w none exrs_t [] 0x42c80000) 2 0xc0000215 (0xc0000215 ∷ 0xc0000263 ∷ []) → ⊥
-unfolding on_w exclusions_at excluded_node any carried each subobjects places_along named_at number in_force keep
+unfolding on_w exclusions_at excluded_node carried each subobjects places_along named_at number in_force keep
 entry-without x = true≢false (x.nodes 0 (omega arith))
 
 abbrev exrs64498 : List ℕ
 exrs64498 = 0x21 ∷ 0x08 ∷ 0x00 ∷ 0x00 ∷ 0x20 ∷ 0x04 ∷ 0xfb ∷ 0xf2 ∷ []
 
 pub domain-without : IsWay (on_w none exrs64498 [] 0x42c80000) 2 0xc0000215 (0xc0000215 ∷ 0xc0000263 ∷ []) → ⊥
-unfolding on_w exclusions_at excluded_domain any profile_w domains domain_at count_from carried each subobjects places_along named_at number in_force keep
+unfolding on_w exclusions_at excluded_domain profile_w domains domain_at count_from carried each subobjects places_along named_at number in_force keep
 domain-without x = true≢false (x.domains 0 (omega arith))

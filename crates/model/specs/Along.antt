@@ -1,9 +1,7 @@
 -- Things that stand one after the other in a list of bytes, each telling where the next one starts: the subobjects of a list, the objects of a message.
 -- One definition for all, over the check of the thing at an offset, the offset after it, and the end.
 use Rattle.std.specs.Prelude.{ℕ, zero, suc, ◌-◌, Bool, true, false, List, [], ◌∷◌, ltb}
-use Rattle.model.specs.declared.Verdict.{Verdict}
-use Rattle.model.specs.declared.Verdict.TheVariants.{Pass}
-use Rattle.model.specs.Verdict.{◌and_then◌}
+use Rattle.model.specs.Verdict.{Verdict, Pass, ◌and_then◌}
 
 -- The things from an offset up to the end, checked in turn. Each right one has at least a byte, so `fuel`, the number of bytes, is enough.
 unfoldable pub checked_along : ℕ → (ℕ → Verdict) → (ℕ → ℕ) → ℕ → ℕ → Verdict

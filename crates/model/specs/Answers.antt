@@ -1,20 +1,15 @@
 -- Document 01's number, and the other numbers beside it in the order of the C interface, for each case of each answer.
-use Rattle.std.specs.Prelude.{ℕ, List, [], ◌∷◌}
+use Rattle.std.specs.Prelude.{ℕ, List, [], ◌∷◌, Result, Ok, Err}
 use Rattle.std.specs.Float.{binary32}
 use Rattle.std.specs.Float.Ieee.{to_bits}
 use Rattle.model.specs.declared.Refusal.{Refusal}
 use Rattle.model.specs.declared.Round.{Round}
 use Rattle.model.specs.declared.Round.TheVariants.{First, Second}
-use Rattle.model.specs.declared.ProfileAnswer.{ProfileAnswer}
-use Rattle.model.specs.declared.ReadAnswer.{ReadAnswer}
-use Rattle.model.specs.declared.WriteAnswer.{WriteAnswer}
-use Rattle.model.specs.declared.TreeAnswer.{TreeAnswer}
+use Rattle.model.specs.declared.ReadCounts.{ReadCounts}
+use Rattle.model.specs.declared.BuiltTree.{BuiltTree}
 use Rattle.model.specs.declared.PathAnswer.{PathAnswer}
-use Rattle.model.specs.declared.ProfileAnswer.TheVariants as Profile
-use Rattle.model.specs.declared.ReadAnswer.TheVariants as Read
-use Rattle.model.specs.declared.WriteAnswer.TheVariants as Write
-use Rattle.model.specs.declared.TreeAnswer.TheVariants as Tree
 use Rattle.model.specs.declared.PathAnswer.TheVariants as Path
+use Rattle.model.specs.Verdict.{Verdict}
 
 -- the number of the answer, and the other numbers: the place first
 pub record Numbers : Type 0 where
@@ -54,28 +49,28 @@ abbrev pub plain4 : ℕ → Numbers
 plain4 n = record { answer = n; others = 0 ∷ 0 ∷ 0 ∷ 0 ∷ [] }
 
 -- others: place
-abbrev pub numbers_of_profile : ProfileAnswer → Numbers
-numbers_of_profile Profile.Accepted = record { answer = 0; others = 0 ∷ [] }
-numbers_of_profile (Profile.Refused r) = refused1 r
+abbrev pub numbers_of_profile : Verdict → Numbers
+numbers_of_profile (Ok _) = record { answer = 0; others = 0 ∷ [] }
+numbers_of_profile (Err r) = refused1 r
 
 -- others: place, how many domains, how many bytes of EXRS
-abbrev pub numbers_of_read : ReadAnswer → Numbers
-numbers_of_read (Read.Read n m) = done3 n m
-numbers_of_read (Read.Refused r) = refused3 r
+abbrev pub numbers_of_read : Result ReadCounts Refusal → Numbers
+numbers_of_read (Ok c) = done3 c.count c.exrs
+numbers_of_read (Err r) = refused3 r
 
 -- others: place, how many bytes
-abbrev pub numbers_of_write : WriteAnswer → Numbers
-numbers_of_write (Write.Written n) = done2 n
-numbers_of_write (Write.Refused r) = refused2 r
+abbrev pub numbers_of_write : Result ℕ Refusal → Numbers
+numbers_of_write (Ok n) = done2 n
+numbers_of_write (Err r) = refused2 r
 
 -- others: place, how many entries, tally, round
-abbrev pub numbers_of_tree : TreeAnswer → Numbers
-numbers_of_tree (Tree.Built n t x) = done4 n t x
-numbers_of_tree (Tree.Refused r) = refused4 r
+abbrev pub numbers_of_tree : Result BuiltTree Refusal → Numbers
+numbers_of_tree (Ok t) = done4 t.entries t.tally t.round
+numbers_of_tree (Err r) = refused4 r
 
 -- others: place, total, bits of the total's float, round
-abbrev pub numbers_of_path : PathAnswer → Numbers
-numbers_of_path (Path.Found n f x) = done4 n (to_bits binary32 f) x
-numbers_of_path Path.NoPath = plain4 1
-numbers_of_path Path.End = plain4 2
-numbers_of_path (Path.Refused r) = refused4 r
+abbrev pub numbers_of_path : Result PathAnswer Refusal → Numbers
+numbers_of_path (Ok (Path.Found n f x)) = done4 n (to_bits binary32 f) x
+numbers_of_path (Ok Path.NoPath) = plain4 1
+numbers_of_path (Ok Path.End) = plain4 2
+numbers_of_path (Err r) = refused4 r

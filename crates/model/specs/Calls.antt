@@ -1,16 +1,14 @@
 -- For each public call its whole outcome as a function of its inputs and of the capacity of what is lent to it: the numbers that it answers, and what it
 -- writes at the start of each lent buffer (nothing on a refusal). Document 01, "Numbers the calculator gives". Capacity is document 01's "room".
-use Rattle.std.specs.Prelude.{ℕ, suc, not, List, [], ◌∷◌, length, eqb, ltb}
+use Rattle.std.specs.Prelude.{ℕ, suc, not, List, [], ◌∷◌, length, eqb, ltb, Ok, Err}
 use Rattle.std.proofs.Math.Option.{Option, none, some}
 use Rattle.std.specs.Float.{binary32}
 use Rattle.std.specs.Float.Ieee.{to_bits}
 use Rattle.model.specs.declared.Round.{Round}
-use Rattle.model.specs.declared.Verdict.{Verdict}
-use Rattle.model.specs.declared.Verdict.TheVariants.{Pass, Refuse}
 use Rattle.model.specs.declared.ListKind.TheVariants.{Include}
 use Rattle.model.specs.declared.TreeEntry.{TreeEntry}
 use Rattle.model.specs.Lists.{below, each, keep}
-use Rattle.model.specs.Verdict.{refuse_if, ◌and_then◌}
+use Rattle.model.specs.Verdict.{Verdict, refuse_if, ◌and_then◌}
 use Rattle.model.specs.Profile.{domains, verdict_on}
 use Rattle.model.specs.Subobject.{form_verdict}
 use Rattle.model.specs.Sequence.{Stop, Reading, refused, good, meaning}
@@ -37,8 +35,8 @@ room_verdict needed room = refuse_if (ltb room needed) 34 0
 -- ---- check_profile
 
 abbrev pub profile_numbers : Verdict → Numbers
-profile_numbers Pass = record { answer = 0; others = 0 ∷ [] }
-profile_numbers (Refuse r) = refused1 r
+profile_numbers (Ok _) = record { answer = 0; others = 0 ∷ [] }
+profile_numbers (Err r) = refused1 r
 
 unfoldable pub check_profile : List ℕ → Numbers
 check_profile profile = profile_numbers (verdict_on profile)
@@ -59,8 +57,8 @@ unfoldable pub all_exrs : List Stop → List ℕ
 all_exrs sequence = each (λ (p : Stop). p.exrs) sequence
 
 abbrev pub answer_read : Verdict → List Stop → Outcome Stop
-answer_read (Refuse r) sequence = nothing (refused3 r)
-answer_read Pass sequence = record { numbers = done3 (length sequence) (length (all_exrs sequence)); written = sequence }
+answer_read (Err r) sequence = nothing (refused3 r)
+answer_read (Ok _) sequence = record { numbers = done3 (length sequence) (length (all_exrs sequence)); written = sequence }
 
 -- `room` is that for the domains, `bytes` that for the EXRS
 abbrev pub read_into : Reading (List Stop) → ℕ → ℕ → Outcome Stop
@@ -82,8 +80,8 @@ pin_node (some node) = node
 -- ---- write_list: the profile, then 35, then 34
 
 abbrev pub answer_write : Verdict → List ℕ → Outcome ℕ
-answer_write (Refuse r) bytes = nothing (refused2 r)
-answer_write Pass bytes = record { numbers = done2 (length bytes); written = bytes }
+answer_write (Err r) bytes = nothing (refused2 r)
+answer_write (Ok _) bytes = record { numbers = done2 (length bytes); written = bytes }
 
 unfoldable pub write_list : List ℕ → List ℕ → List ℕ → List ℕ → List ℕ → List ℕ → ℕ → Outcome ℕ
 write_list profile indexes marks nodes counts exrs room =
@@ -98,8 +96,8 @@ write_list profile indexes marks nodes counts exrs room =
 -- ---- tree: the request's checks, then the capacity for every entry; the tree of the round that applies, though the bound isn't applied to its entries
 
 abbrev pub answer_tree : Verdict → Round → Search → Outcome TreeEntry
-answer_tree (Refuse r) x S = nothing (refused4 r)
-answer_tree Pass x S = record { numbers = done4 (length (tree S)) (over_rounds x (tally S)) x; written = tree S }
+answer_tree (Err r) x S = nothing (refused4 r)
+answer_tree (Ok _) x S = record { numbers = done4 (length (tree S)) (over_rounds x (tally S)) x; written = tree S }
 
 abbrev pub tree_into : Request → Reading (List Stop) → ℕ → Outcome TreeEntry
 tree_into r (refused x) room = nothing (refused4 x)
@@ -121,8 +119,8 @@ first_of x None-number [] = nothing (plain4 None-number)
 first_of x None-number (p ∷ ps) = found x p
 
 abbrev pub answer_path : Verdict → Round → ℕ → List Route → Outcome ℕ
-answer_path (Refuse r) x None-number ps = nothing (refused4 r)
-answer_path Pass x None-number ps = first_of x None-number ps
+answer_path (Err r) x None-number ps = nothing (refused4 r)
+answer_path (Ok _) x None-number ps = first_of x None-number ps
 
 -- a path of the sequence has k + 2 addresses
 abbrev pub path_length : List Stop → ℕ

@@ -1,6 +1,7 @@
 -- Tests and orders on lists, in the plain form that the other modules use: pick, test all, test any, put in ascending order.
 -- Nothing here is particular to the calculator.
 use Rattle.std.specs.Prelude.{ℕ, zero, suc, ◌+◌, min, Bool, true, false, not, ◌&&◌, ◌||◌, List, [], ◌∷◌, ◌++◌, length, drop, eqb, ltb}
+use Rattle.std.specs.List.{list_any, list_all}
 
 -- the numbers i, i + 1, .. , n of them
 unfoldable pub count_from : ℕ → ℕ → List ℕ
@@ -18,13 +19,11 @@ module _ {A : Type 0} where
   keep p [] = []
   keep p (x ∷ xs) = keep_if (p x) x (keep p xs)
 
-  unfoldable pub all : (A → Bool) → List A → Bool
-  all p [] = true
-  all p (x ∷ xs) = p x && all p xs
+  abbrev pub all : (A → Bool) → List A → Bool
+  all p xs = list_all p xs
 
-  unfoldable pub any : (A → Bool) → List A → Bool
-  any p [] = false
-  any p (x ∷ xs) = p x || any p xs
+  abbrev pub any : (A → Bool) → List A → Bool
+  any p xs = list_any p xs
 
   abbrev pub is_empty : List A → Bool
   is_empty [] = true

@@ -4,10 +4,9 @@ use Rattle.std.specs.Float.{binary32}
 use Rattle.std.specs.Float.Ieee.{of_bits}
 use Rattle.model.specs.declared.Domain.{Domain}
 use Rattle.model.specs.declared.Hop.{Hop}
-use Rattle.model.specs.declared.Verdict.{Verdict}
 use Rattle.model.specs.Lists.{any, below, count_from, different, keep}
 use Rattle.model.specs.Bytes.{number, part, all_zero}
-use Rattle.model.specs.Verdict.{refuse_if, ◌and_then◌, in_turn}
+use Rattle.model.specs.Verdict.{Verdict, refuse_if, ◌and_then◌, in_turn}
 use Rattle.model.specs.Reserved.{as_ranges, address_ranges, misplaced, nobodys}
 
 -- What a version of the format sets: its number, the size of a hop record, the places in it of the cost that counts and of

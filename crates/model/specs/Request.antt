@@ -1,14 +1,12 @@
 -- What a request holds, its checks 20 to 22 and those of its lists in document 01's order, and what a search needs of an accepted one in a round.
-use Rattle.std.specs.Prelude.{ℕ, ◌≡◌, Bool, not, ◌&&◌, List, ◌++◌, map, length, leb, ltb}
+use Rattle.std.specs.Prelude.{ℕ, ◌≡◌, Bool, not, ◌&&◌, List, ◌++◌, map, length, leb, ltb, Ok, Err}
 use Rattle.model.specs.declared.Domain.{Domain}
 use Rattle.model.specs.declared.Hop.{Hop}
 use Rattle.model.specs.declared.Limits.{Limits}
 use Rattle.model.specs.declared.Round.{Round}
 use Rattle.model.specs.declared.ListKind.TheVariants.{Include, Exclude}
-use Rattle.model.specs.declared.Verdict.{Verdict}
-use Rattle.model.specs.declared.Verdict.TheVariants.{Pass, Refuse}
 use Rattle.model.specs.Lists.{each}
-use Rattle.model.specs.Verdict.{refuse_if, ◌and_then◌}
+use Rattle.model.specs.Verdict.{Verdict, Pass, refuse_if, ◌and_then◌}
 use Rattle.model.specs.Profile.{Layout, layout_in, domain_count, profile_verdict, domains, hops}
 use Rattle.model.specs.Subobject.{Subobject, form_verdict, subobjects, carried}
 use Rattle.model.specs.Sequence.{Stop, Reading, refused, good, ReadingInput, meaning}
@@ -59,8 +57,8 @@ reading_input profile = record { domains = domains profile }
 
 -- a reading that goes on only where the checks pass
 abbrev pub provided : {A : Type 0} → Verdict → Reading A → Reading A
-provided Pass reading = reading
-provided (Refuse r) reading = refused r
+provided (Ok _) reading = reading
+provided (Err r) reading = refused r
 
 -- ---- the checks of a whole request before 33: profile, 20 to 22, form of the include list, then of the exclude list, meaning of the include list
 

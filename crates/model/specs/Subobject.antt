@@ -1,13 +1,11 @@
 -- Subobjects and the form of a list of them: document 01, "Subobjects". One definition for include and exclude lists, over the list kind.
 use Rattle.std.specs.Prelude.{ℕ, ◌+◌, ◌-◌, ◌*◌, ◌/◌, ◌%◌, Bool, true, false, not, cond, ◌&&◌, ◌||◌, List, [], ◌∷◌, map, length, get_or, drop, eqb, leb, ltb}
-use Rattle.model.specs.declared.Verdict.{Verdict}
-use Rattle.model.specs.declared.Verdict.TheVariants.{Pass}
 use Rattle.model.specs.declared.ListKind.{ListKind}
 use Rattle.model.specs.declared.ListKind.TheVariants.{Include, Exclude}
 use Rattle.model.specs.Lists.{any, each}
 use Rattle.model.specs.Bytes.{number, part, all_zero}
 use Rattle.model.specs.Reserved.{nobodys}
-use Rattle.model.specs.Verdict.{refuse_if, ◌and_then◌}
+use Rattle.model.specs.Verdict.{Verdict, Pass, refuse_if, ◌and_then◌}
 use Rattle.model.specs.Along.{checked_from, places_from}
 
 -- an area: its kind (1 OSPF, 2 IS-IS) and its bytes, as many as its length

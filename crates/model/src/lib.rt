@@ -2,11 +2,11 @@
 #![tactic(auto)]
 
 // A domain's place among the profile's domain records, counted from 0.
-#[derive(Clone, Copy)]
+#[derive(Clone, Copy, Debug, PartialEq, Eq, PartialOrd, Ord)]
 pub struct DomainIndex(pub u16);
 
 // A node's IPv4 address, as a number.
-#[derive(Clone, Copy)]
+#[derive(Clone, Copy, Debug, PartialEq, Eq, PartialOrd, Ord)]
 pub struct NodeAddress(pub u32);
 
 // A domain record: its autonomous system number, and its area's kind (0 none, 1 OSPF, 2 IS-IS), length and bytes.
@@ -38,22 +38,70 @@ pub struct Limits {
     pub bounded: bool,
 }
 
+// Why a call refuses; `as u32` gives document 01's number.
+#[derive(Clone, Copy, Debug, PartialEq, Eq)]
+pub enum Reason {
+    ShortProfile = 10,
+    WrongHeader = 11,
+    WrongCounts = 12,
+    WrongLength = 13,
+    MalformedDomain = 14,
+    MisorderedDomain = 15,
+    Misplaced = 16,
+    MalformedHop = 17,
+    MisorderedHop = 18,
+    CrowdedPair = 19,
+    UnknownIngress = 20,
+    FloatOutOfRange = 21,
+    LongList = 22,
+    CutOff = 23,
+    UnknownType = 24,
+    SubobjectLength = 25,
+    WrongField = 26,
+    LooseBit = 27,
+    UnknownDomain = 28,
+    SeveralDomains = 29,
+    DomainAgain = 30,
+    TooManyDomains = 31,
+    EntryConstraintLeft = 32,
+    GivenLength = 33,
+    LittleRoom = 34,
+    Unwritable = 35,
+    WrongMessageHeader = 36,
+    WrongObject = 37,
+    UnknownObject = 38,
+    NoRequestParameters = 39,
+    NoEndPoints = 40,
+    NoRoute = 41,
+    ExrsLeft = 42,
+}
+
 // Document 01's number of a refusal, and its place.
-#[derive(Clone, Copy)]
+#[derive(Clone, Copy, Debug, PartialEq, Eq)]
 pub struct Refusal {
     pub number: u32,
     pub place: u32,
 }
 
-// What a check says: the input passes it, or is refused.
-#[derive(Clone, Copy)]
-pub enum Verdict {
-    Pass,
-    Refuse(Refusal),
+impl Refusal {
+    ghost use Rattle.std.specs.Prelude.{◌≡◌};
+    ghost use Rattle.model.specs.Verdict.{number_of};
+
+    pub fn new(reason: Reason, place: u32) -> Refusal
+        ensures { result ≡ record { number = number_of reason; place = place } }
+    {
+        Refusal {
+            number: reason as u32,
+            place,
+        }
+    }
 }
 
+// What a check says: the input passes it, or is refused.
+pub type Verdict = Result<(), Refusal>;
+
 // Which of a request's two lists is read: an include list (IRO) or an exclude list (XRO).
-#[derive(Clone, Copy)]
+#[derive(Clone, Copy, Debug, PartialEq, Eq)]
 pub enum ListKind {
     Include,
     Exclude,
@@ -61,7 +109,7 @@ pub enum ListKind {
 
 // Which search for paths a call's answer comes from: the first, with every exclusion, or, where that finds no admissible path and some exclusion
 // is only desired (its X bit is set), the second, without those.
-#[derive(Clone, Copy)]
+#[derive(Clone, Copy, Debug, PartialEq, Eq)]
 pub enum Round {
     First,
     Second,
@@ -77,33 +125,21 @@ pub struct TreeEntry {
     pub cost: u32,
 }
 
-// The answers of the public calls. `numbers_of…` in specs/Answers.antt gives document 01's numbers for each case.
-#[derive(Clone, Copy)]
-pub enum ProfileAnswer {
-    Accepted,
-    Refused(Refusal),
+// The answers of the public calls where they don't refuse. `numbers_of…` in specs/Answers.antt gives document 01's numbers for each case.
+
+// An include list that was read: how many domains its sequence has, and how many bytes their EXRS.
+#[derive(Clone, Copy, Debug, PartialEq, Eq)]
+pub struct ReadCounts {
+    pub count: u32,
+    pub exrs: u32,
 }
 
+// A tree that was built: how many entries it has, how many hop records were examined for it, and the round.
 #[derive(Clone, Copy)]
-pub enum ReadAnswer {
-    Read { count: u32, exrs: u32 },
-    Refused(Refusal),
-}
-
-#[derive(Clone, Copy)]
-pub enum WriteAnswer {
-    Written { length: u32 },
-    Refused(Refusal),
-}
-
-#[derive(Clone, Copy)]
-pub enum TreeAnswer {
-    Built {
-        entries: u32,
-        tally: u32,
-        round: Round,
-    },
-    Refused(Refusal),
+pub struct BuiltTree {
+    pub entries: u32,
+    pub tally: u32,
+    pub round: Round,
 }
 
 #[derive(Clone, Copy)]
@@ -118,5 +154,4 @@ pub enum PathAnswer {
     NoPath,
     // next: nothing greater
     End,
-    Refused(Refusal),
 }

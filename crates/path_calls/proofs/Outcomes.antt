@@ -1,4 +1,5 @@
 -- The outcomes of first and next for a request as it was checked: refused, 33, 34, or the first of the shortest paths above the given list. From what the checks say.
+use Rattle.std.specs.Prelude.{Err}
 use mathlib.Core.Path.{◌≡◌, sym, ap, ◌∙◌}
 use mathlib.Core.Bool.{not}
 use mathlib.Core.List.{List, []}
@@ -9,10 +10,8 @@ use lib.ListN.{length}
 use borrow.Author.Tests.{not-false, ltb-false, eqb-true}
 use Rattle.model.specs.declared.Refusal.{Refusal}
 use Rattle.model.specs.declared.Round.{Round}
-use Rattle.model.specs.declared.Verdict.{Verdict}
-use Rattle.model.specs.declared.Verdict.TheVariants.{Pass, Refuse}
 use Rattle.model.specs.Lists.{below}
-use Rattle.model.specs.Verdict.{refuse_if}
+use Rattle.model.specs.Verdict.{Verdict, Pass, refuse_if}
 use Rattle.model.specs.Profile.{layout_in}
 use Rattle.model.specs.Sequence.{Stop, Reading}
 use Rattle.model.specs.Request.{Request, Search}
@@ -64,7 +63,7 @@ module _ (P : List ℕ) (asked : Asked) (I E : List ℕ) (r : CheckedRequest) (i
   needed = ap suc (stops-long I r.query)
 
   module _ (room : ℕ) where
-    pub first_refused : (why : Refusal) → r.verdict ≡ Refuse why → first req room ≡ nothing (refused4 why)
+    pub first_refused : (why : Refusal) → r.verdict ≡ Err why → first req room ≡ nothing (refused4 why)
     unfolding first
     first_refused why e = ap (λ (y : Reading (List Stop)). first_into req y room) (refused-request P asked I E r is why e)
 
@@ -74,7 +73,7 @@ module _ (P : List ℕ) (asked : Asked) (I E : List ℕ) (r : CheckedRequest) (i
         ap (λ (y : Reading (List Stop)). first_into req y room) (accepted-request P asked I E r is e)
         ∙ (λ j. answer_path (room_verdict (needed j) room) (round-request P asked I E r is j) 1 (shortest_paths (search-request P asked I E r is j)))
 
-    pub first_unlent : (why : Refusal) → r.verdict ≡ Pass → room_verdict (suc r.query.count) room ≡ Refuse why → first req room ≡ nothing (refused4 why)
+    pub first_unlent : (why : Refusal) → r.verdict ≡ Pass → room_verdict (suc r.query.count) room ≡ Err why → first req room ≡ nothing (refused4 why)
     first_unlent why e f = first_accepted e ∙ ap (λ (v : Verdict). answer_path v x 1 (shortest_paths S)) f
 
     pub first_searched : r.verdict ≡ Pass → room_verdict (suc r.query.count) room ≡ Pass → first req room ≡ first_of x 1 (greater_than [] (shortest_paths S))
@@ -84,7 +83,7 @@ module _ (P : List ℕ) (asked : Asked) (I E : List ℕ) (r : CheckedRequest) (i
         ∙ ap (first_of x 1) (sym (all_above-nothing S))
 
     module _ (given : List ℕ) where
-      pub next_refused : (why : Refusal) → r.verdict ≡ Refuse why → next req given room ≡ nothing (refused4 why)
+      pub next_refused : (why : Refusal) → r.verdict ≡ Err why → next req given room ≡ nothing (refused4 why)
       unfolding next
       next_refused why e = ap (λ (y : Reading (List Stop)). next_into req y given room) (refused-request P asked I E r is why e)
 
@@ -100,7 +99,7 @@ module _ (P : List ℕ) (asked : Asked) (I E : List ℕ) (r : CheckedRequest) (i
           (greater_than given (shortest_paths (search-request P asked I E r is j))))
 
       pub next-unlent
-          : (why : Refusal) → r.verdict ≡ Pass → given_verdict (length given) (suc r.query.count) room ≡ Refuse why → next req given room ≡ nothing (refused4 why)
+          : (why : Refusal) → r.verdict ≡ Pass → given_verdict (length given) (suc r.query.count) room ≡ Err why → next req given room ≡ nothing (refused4 why)
       next-unlent why e f = next-accepted e ∙ ap (λ (v : Verdict). answer_path v x 2 (greater_than given (shortest_paths S))) f
 
       pub next-searched

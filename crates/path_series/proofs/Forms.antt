@@ -17,7 +17,6 @@ use Rattle.path_series.specs.Calls.{unknown, malformed}
 
 module _ (kinds : List ℕ) (i : ℕ) (h : i < length kinds) where
   any_here : any unknown (drop i kinds) ≡ (ltb 1 (get_or kinds i 0) || any unknown (drop (suc i) kinds))
-  unfolding any
   any_here = ap (any unknown) (drop-cons kinds i 0 h)
 
   pub kind-unknown : 1 < get_or kinds i 0 → any unknown (drop i kinds) ≡ true
@@ -27,7 +26,6 @@ module _ (kinds : List ℕ) (i : ℕ) (h : i < length kinds) where
   kind-known k = rw add-one (any_here ∙ ap (λ (b : Bool). b || any unknown (drop (suc i) kinds)) (le-ltb 1 (get_or kinds i 0) k))
 
 pub kinds-known : (kinds : List ℕ) (i : ℕ) → length kinds ≤ i → any unknown (drop i kinds) ≡ false
-unfolding any
 kinds-known kinds i h = ap (any unknown) (drop_of_length-le kinds h)
 
 -- ---- sizes

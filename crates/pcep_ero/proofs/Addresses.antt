@@ -1,4 +1,5 @@
 -- An ERO's body of right form: a step is 8 bytes, so the walk goes on by 8, and the addresses stand at every eighth byte. From the laws of walks.
+use Rattle.std.specs.Prelude.{Err}
 use mathlib.Core.Path.{◌≡◌, sym, ap, subst, ◌∙◌}
 use mathlib.Core.Logic.{⊎_elim}
 use mathlib.Core.Bool.{true, false, not, ◌&&◌}
@@ -11,9 +12,7 @@ use lib.ListN.{length, get_or}
 use borrow.Author.Tests.{eqb-true, ltb-true, ltb-false, le-leb, not-false}
 use Rattle.model.specs.declared.ListKind.TheVariants.{Include}
 use Rattle.model.specs.declared.Refusal.{Refusal}
-use Rattle.model.specs.declared.Verdict.{Verdict}
-use Rattle.model.specs.declared.Verdict.TheVariants.{Pass, Refuse}
-use Rattle.model.specs.Verdict.{refuse_if}
+use Rattle.model.specs.Verdict.{Verdict, Pass, refuse_if}
 use Rattle.model.specs.Along.{checked_from, places_from}
 use Rattle.model.specs.Subobject.{type_at, length_at, area_length_at, plain_verdict, after_subobject}
 use Rattle.laws.proofs.Tests.{decide, and-false}
@@ -71,7 +70,7 @@ module _ (e : List ℕ) where
   verdict-end = Along.checked_end (after_subobject e) (length e) (step_verdict e) further
 
   module _ (at : ℕ) (h : at < length e) where
-    pub verdict-refused : (r : Refusal) → step_verdict e at ≡ Refuse r → verdict_left at ≡ Refuse r
+    pub verdict-refused : (r : Refusal) → step_verdict e at ≡ Err r → verdict_left at ≡ Err r
     verdict-refused = Along.checked_refused (after_subobject e) (length e) (step_verdict e) further at h
 
     pub verdict_next : step_verdict e at ≡ Pass → verdict_left at ≡ verdict_left (at + 8)

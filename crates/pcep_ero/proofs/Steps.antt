@@ -9,21 +9,19 @@ use lib.Dec.{eqb, ltb}
 use lib.ListN.{length, get_or}
 use borrow.Author.Tests.{ne_eqb, le-leb, lt-leb, lt-ltb, le-ltb}
 use Rattle.model.specs.declared.ListKind.TheVariants.{Include}
-use Rattle.model.specs.declared.Verdict.{Verdict}
-use Rattle.model.specs.declared.Verdict.TheVariants.{Pass}
 use Rattle.model.specs.Lists.{any}
-use Rattle.model.specs.Verdict.{refuse_if, ◌and_then◌}
+use Rattle.model.specs.Verdict.{Verdict, Pass, refuse_if, ◌and_then◌}
 use Rattle.model.specs.Subobject.{rounded_up, known, length_fits, type_at, top_at, length_at, area_length_at, field_wrong, plain_verdict}
 use Rattle.refusal.specs.Refused.{refusal}
 use Rattle.pcep_model.specs.Pcrep.{step_verdict}
 
 -- type 1 is known, and its length is 8
 known_1 : known Include 1 ≡ true
-unfolding known any
+unfolding known
 known_1 = refl
 
 pub fits_1 : (a n : ℕ) → length_fits Include 1 a n ≡ eqb n 8
-unfolding length_fits any
+unfolding length_fits
 fits_1 a n = let e : 8 + 0 * rounded_up a ≡ 8 = omega arith in or-false (eqb n (8 + 0 * rounded_up a)) ∙ ap (eqb n) e
 
 -- of the last check only type 1's part counts

@@ -2,7 +2,7 @@
 #![tactic(auto)]
 
 ghost use Rattle.std.specs.Prelude.{◌≡◌, ◌+◌, ◌≤◌, ◌<◌, length, true};
-ghost use Rattle.model.specs.declared.Verdict.TheVariants.{Pass};
+ghost use Rattle.model.specs.Verdict.{Pass};
 ghost use Rattle.model.specs.Lists.{over};
 ghost use Rattle.pcep_model.specs.Pcrep.{step_verdict, ero_verdict, addresses_in};
 ghost use Rattle.pcep_ero.specs.Left.{LeftDecides};

@@ -2,9 +2,7 @@
 use Prim.Native.Nat.{ℕ}
 use mathlib.Core.Path.{◌≡◌, ap, ◌∙◌}
 use mathlib.Core.List.{List}
-use Rattle.model.specs.declared.Verdict.{Verdict}
-use Rattle.model.specs.declared.Verdict.TheVariants.{Pass}
-use Rattle.model.specs.Verdict.{◌and_then◌}
+use Rattle.model.specs.Verdict.{Verdict, Pass, ◌and_then◌}
 use Rattle.model.specs.Profile.{verdict_on}
 use Rattle.model.specs.Request.{ingress_verdict, request_verdict, sizes_verdict, forms_verdict, request_verdict_with}
 use Rattle.laws.proofs.Turns.{and_then-nothing}

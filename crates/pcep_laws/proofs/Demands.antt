@@ -1,15 +1,15 @@
 -- What is demanded of messages (document 02's request [3]), sentence by sentence, as `Demands` of `laws` has it for the other calls: over the calls' outcomes and the
 -- reference series.
+use Rattle.std.specs.Prelude.{Ok}
 use Prim.Native.Nat.{ℕ, ◌≤◌}
 use mathlib.Core.Path.{◌≡◌}
 use mathlib.Core.Bool.{Bool}
 use mathlib.Core.List.{List, []}
 use lib.ListN.{length}
-use Rattle.model.specs.declared.Verdict.TheVariants.{Pass}
+use Rattle.model.specs.Verdict.{Pass}
 use Rattle.model.specs.Series.{Call}
 use Rattle.laws.proofs.BigEndian.{Bytes}
 use Rattle.pcep_model.specs.declared.MessageKind.TheVariants.{Pcreq}
-use Rattle.pcep_model.specs.declared.PcrepAnswer.TheVariants as Answer
 use Rattle.pcep_model.specs.Objects.{message_verdict}
 use Rattle.pcep_model.specs.Metrics.{wrong_metric}
 use Rattle.pcep_model.specs.Pcreq.{carried, pcreq_run}
@@ -43,5 +43,5 @@ pub pcrep-reads-back
     : (r : Reply) (unequal : Bool) (room : ℕ) → Fits r → write_verdict r unequal room ≡ Pass
     → (address_room metric_room : ℕ) → length (given_addresses r) ≤ address_room → length r.metrics ≤ metric_room
     → read_pcrep (written_pcrep r) address_room metric_room
-    ≡ record { numbers = numbers_of_pcrep (Answer.Read (given_fields r)); addresses = given_addresses r; metrics = r.metrics }
+    ≡ record { numbers = numbers_of_pcrep (Ok (given_fields r)); addresses = given_addresses r; metrics = r.metrics }
 pcrep-reads-back = Reply.pcrep-reads-back

@@ -5,8 +5,7 @@ use mathlib.Core.Bool.{false, ◌&&◌}
 use mathlib.Core.List.{List}
 use lib.Dec.{eqb}
 use borrow.Author.Tests.{eqb-false}
-use Rattle.model.specs.declared.Verdict.TheVariants.{Pass}
-use Rattle.model.specs.Verdict.{refuse_if, ◌and_then◌}
+use Rattle.model.specs.Verdict.{Pass, refuse_if, ◌and_then◌}
 use Rattle.laws.proofs.Turns.{and_then_pass, refuse_if_pass}
 use Rattle.pcep_model.specs.declared.MessageKind.{MessageKind}
 use Rattle.pcep_model.specs.declared.MessageKind.TheVariants.{Pcreq, Pcrep}

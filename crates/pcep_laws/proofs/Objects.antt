@@ -8,10 +8,10 @@ use mathlib.Core.List.{List}
 use lib.ListN.{length}
 use lib.Dec.{eqb, ltb}
 use borrow.Author.Tests.{ltb-false, eqb-true, ne_eqb, not-false}
-use Rattle.model.specs.declared.Verdict.TheVariants.{Pass}
 use Rattle.laws.proofs.Tests.{or_neither}
 use Rattle.laws.proofs.Turns.{and_then-refuse_if, refuse_if_pass}
 use Rattle.pcep_model.specs.declared.MessageKind.{MessageKind}
+use Rattle.model.specs.Verdict.{Pass}
 use Rattle.model.specs.Along.{or_else, first_of}
 use Rattle.pcep_model.specs.Objects.{class_at, type_at, demanded_at, size_at, size_wrong, known_object, own_length, object_verdict, after_object, objects_verdict, objects_in}
 use Rattle.pcep_laws.specs.Firsts.{kept, noted}

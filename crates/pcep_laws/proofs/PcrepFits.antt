@@ -8,7 +8,7 @@ use mathlib.Core.List.{List, [], ◌∷◌}
 use lib.ListN.{length, get_or}
 use lib.Dec.{ltb}
 use borrow.Author.Tests.{ltb-false}
-use Rattle.model.specs.declared.Verdict.TheVariants.{Pass}
+use Rattle.model.specs.Verdict.{Pass}
 use Rattle.model.specs.Lists.{any}
 use Rattle.laws.proofs.Tests.{or_neither}
 use Rattle.laws.proofs.Turns.{and_then-refuse_if, refuse_if_pass}
@@ -43,7 +43,6 @@ writes r unequal room e =
     record { short = omega arith; in_range_lem = one.1 }
 
 pub each_in_range : (ms : List Metric) → any (λ (m : Metric). out_of_range m.value) ms ≡ false → Each (λ (m : Metric). out_of_range m.value ≡ false) ms
-unfolding any
 each_in_range [] e = tt
 each_in_range (m ∷ ms) e =
     let b = or_neither (out_of_range m.value) (any (λ (x : Metric). out_of_range x.value) ms) e in

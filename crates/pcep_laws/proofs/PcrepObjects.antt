@@ -7,10 +7,9 @@ use mathlib.Core.Bool.{Bool, true, false, cond, ◌&&◌}
 use mathlib.Core.List.{List, [], ◌∷◌, ◌++◌, map, map-id}
 use lib.ListN.{length}
 use lib.Dec.{eqb}
-use Rattle.model.specs.declared.Verdict.TheVariants.{Pass}
 use Rattle.model.specs.Lists.{keep_if, keep, each}
 use Rattle.model.specs.Bytes.{bytes_of}
-use Rattle.model.specs.Verdict.{refuse_if}
+use Rattle.model.specs.Verdict.{Pass, refuse_if}
 use Rattle.laws.proofs.Lists.{keep_all}
 use Rattle.laws.proofs.Numbers.{number_shift, number-bytes_of}
 use Rattle.laws.proofs.Turns.{and_then_pass, and_then-refuse_if, refuse_if_pass}

@@ -1,5 +1,6 @@
 -- A PCRep that the writer writes is read back: with enough room the reader answers the fields that were given, and writes the addresses and METRICs that
 -- were given. Each field is read at its object, by cases on whether there is a path.
+use Rattle.std.specs.Prelude.{Ok}
 use Prim.Native.Nat.{ℕ, ◌+◌, ◌-◌, ◌*◌, ◌%◌, ◌≤◌, ◌<◌}
 use native.Mathlib.Nat.{mod-lt, mod-eq_of_lt}
 use native.Mathlib.Omega.{arith}
@@ -9,16 +10,13 @@ use mathlib.Core.List.{List, [], ◌∷◌, ◌++◌}
 use lib.ListN.{length, get_or}
 use lib.Dec.{eqb, leb, ltb, lit<}
 use borrow.Author.Tests.{le-ltb}
-use Rattle.model.specs.declared.Verdict.{Verdict}
-use Rattle.model.specs.declared.Verdict.TheVariants.{Pass}
 use Rattle.model.specs.Lists.{each}
 use Rattle.model.specs.Bytes.{number, bytes_of, part}
-use Rattle.model.specs.Verdict.{refuse_if}
+use Rattle.model.specs.Verdict.{Verdict, Pass, refuse_if}
 use Rattle.model.specs.Calls.{room_verdict}
 use Rattle.laws.proofs.Numbers.{number_shift, number-bytes_of}
 use Rattle.laws.proofs.Turns.{and_then_pass}
 use Rattle.pcep_model.specs.declared.MessageKind.TheVariants.{Pcrep}
-use Rattle.pcep_model.specs.declared.PcrepAnswer.TheVariants as Answer
 use Rattle.pcep_model.specs.Objects.{size_at, message_verdict}
 use Rattle.pcep_model.specs.Metrics.{metrics, wrong_metric}
 use Rattle.pcep_model.specs.Pcreq.{rp_flags_of, request_id_of}
@@ -168,11 +166,11 @@ module _ (r : Reply) (fits : Fits r) (w : Writes r) where
 
     sent-read
         : read_pcrep (sent r) address_room metric_room
-        ≡ record { numbers = numbers_of_pcrep (Answer.Read (given_fields r)); addresses = given_addresses r; metrics = r.metrics }
+        ≡ record { numbers = numbers_of_pcrep (Ok (given_fields r)); addresses = given_addresses r; metrics = r.metrics }
     unfolding read_pcrep
     sent-read =
         ap (λ (v : Verdict). answer_pcrep v (sent r)) passes
-        ∙ (λ i. record { numbers = numbers_of_pcrep (Answer.Read (fields_read i)); addresses = addresses-read i; metrics = metrics-read r fits w i })
+        ∙ (λ i. record { numbers = numbers_of_pcrep (Ok (fields_read i)); addresses = addresses-read i; metrics = metrics-read r fits w i })
 
 -- Document 02's request [3]: METRICs keep each field bit for bit.
 pub metrics-written-bit-for-bit
@@ -184,6 +182,6 @@ pub pcrep-reads-back
     : (r : Reply) (unequal : Bool) (room : ℕ) → Fits r → write_verdict r unequal room ≡ Pass
     → (address_room metric_room : ℕ) → length (given_addresses r) ≤ address_room → length r.metrics ≤ metric_room
     → read_pcrep (written_pcrep r) address_room metric_room
-    ≡ record { numbers = numbers_of_pcrep (Answer.Read (given_fields r)); addresses = given_addresses r; metrics = r.metrics }
+    ≡ record { numbers = numbers_of_pcrep (Ok (given_fields r)); addresses = given_addresses r; metrics = r.metrics }
 pcrep-reads-back r unequal room fits e address_room metric_room ra rm =
     ap (λ (s : List ℕ). read_pcrep s address_room metric_room) (written_message r) ∙ sent-read r fits (writes r unequal room e) address_room metric_room ra rm

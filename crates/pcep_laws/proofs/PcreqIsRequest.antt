@@ -1,14 +1,14 @@
 -- The calls through a PCReq whose frame passes, alone or in a series, are the calls on the lists and numbers that it carries; so the series' claim holds
 -- through it. By putting the frame's verdict in its place, and recursion on the calls.
+use Rattle.std.specs.Prelude.{Ok, Err}
 use Prim.Native.Nat.{ℕ}
 use mathlib.Core.Path.{◌≡◌, refl, ap, subst, ◌∙◌}
 use mathlib.Core.Bool.{not, cond}
 use mathlib.Core.List.{List, [], ◌∷◌, map}
 use lib.ListN.{length}
 use lib.Dec.{eqb}
+use Rattle.model.specs.Verdict.{Verdict, Pass}
 use Rattle.model.specs.declared.Refusal.{Refusal}
-use Rattle.model.specs.declared.Verdict.{Verdict}
-use Rattle.model.specs.declared.Verdict.TheVariants.{Pass, Refuse}
 use Rattle.model.specs.Lists.{over}
 use Rattle.model.specs.Request.{Request, limits_of_bits}
 use Rattle.model.specs.Answers.{refused4}
@@ -91,12 +91,12 @@ module _ (profile : List ℕ) (ingress : ℕ) (s : List ℕ) where
 
   -- ---- a frame that is refused: each call gives its refusal and leaves the buffer as it is
 
-  call_refused : (x : Refusal) → message_verdict Pcreq s ≡ Refuse x → (last : List ℕ) (kind : Kind) (room : ℕ) → pcreq_call profile ingress s last kind room ≡ nothing (refused4 x)
+  call_refused : (x : Refusal) → message_verdict Pcreq s ≡ Err x → (last : List ℕ) (kind : Kind) (room : ℕ) → pcreq_call profile ingress s last kind room ≡ nothing (refused4 x)
   unfolding pcreq_first pcreq_next
   call_refused x e last first_call room = ap (λ (v : Verdict). behind v (Calls.first (carried profile ingress s) room)) e
   call_refused x e last next_call room = ap (λ (v : Verdict). behind v (Calls.next (carried profile ingress s) last room)) e
 
-  series-refused : (x : Refusal) → message_verdict Pcreq s ≡ Refuse x → (last : List ℕ) (calls : List Call) → pcreq_run profile ingress s last calls ≡ map (refused_call x) calls
+  series-refused : (x : Refusal) → message_verdict Pcreq s ≡ Err x → (last : List ℕ) (calls : List Call) → pcreq_run profile ingress s last calls ≡ map (refused_call x) calls
   unfolding pcreq_run over
   series-refused x e last [] = refl
   series-refused x e last (c ∷ cs) =
@@ -106,8 +106,8 @@ module _ (profile : List ℕ) (ingress : ℕ) (s : List ℕ) where
 -- ---- so the series' claim holds through it: document 01's book, or each call its refusal, 36 to 40 of the frame or that of the request
 
 abbrev pub pcreq_replies : Verdict → Request → List Call → List Reply
-pcreq_replies Pass r calls = replies r calls
-pcreq_replies (Refuse x) r calls = map (refused_call x) calls
+pcreq_replies (Ok _) r calls = replies r calls
+pcreq_replies (Err x) r calls = map (refused_call x) calls
 
 pub pcreq-series
     : (profile : List ℕ) (ingress : ℕ) (s : List ℕ)
@@ -116,5 +116,5 @@ pub pcreq-series
 pcreq-series profile ingress s bytes calls = go (message_verdict Pcreq s) refl
   where
     go : (v : Verdict) → message_verdict Pcreq s ≡ v → pcreq_run profile ingress s [] calls ≡ pcreq_replies v (carried profile ingress s) calls
-    go Pass e = series-carried profile ingress s e [] calls ∙ series-replies (carried profile ingress s) bytes calls
-    go (Refuse x) e = series-refused profile ingress s x e [] calls
+    go (Ok _) e = series-carried profile ingress s e [] calls ∙ series-replies (carried profile ingress s) bytes calls
+    go (Err x) e = series-refused profile ingress s x e [] calls

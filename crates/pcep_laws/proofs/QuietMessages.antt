@@ -1,4 +1,5 @@
 -- What the calls that take or make a message say and write by their answer: as for the other calls (`Quiet` of `laws`), with numbers up to 41, and 42 where an include list is read. By going through the checks.
+use Rattle.std.specs.Prelude.{Ok, Err}
 use Prim.Native.Nat.{ℕ, ◌+◌, ◌-◌, ◌≤◌}
 use native.Mathlib.Omega.{arith}
 use mathlib.Core.Path.{◌≡◌, refl}
@@ -6,9 +7,8 @@ use mathlib.Core.Bool.{Bool, not, ◌&&◌, ◌||◌}
 use mathlib.Core.List.{List, []}
 use lib.ListN.{length}
 use lib.Dec.{eqb, leb, ltb}
+use Rattle.model.specs.Verdict.{Verdict}
 use Rattle.model.specs.declared.ListKind.TheVariants.{Include}
-use Rattle.model.specs.declared.Verdict.{Verdict}
-use Rattle.model.specs.declared.Verdict.TheVariants.{Pass, Refuse}
 use Rattle.model.specs.Lists.{any}
 use Rattle.model.specs.Subobject as Subobject
 use Rattle.model.specs.Request.{sequence_of}
@@ -65,8 +65,8 @@ widened v h = record { numbered = λ x e. let n = h.numbered x e in (n.0, omega 
 -- ---- the calls
 
 pcreq_by : (v : Verdict) (s : List ℕ) → Refusing 41 v → Quiet 41 (answer_pcreq v s)
-pcreq_by Pass s h = done_quiet 41 high _ (metrics s)
-pcreq_by (Refuse x) s h = refused_quiet 41 high 10 x (h.numbered x refl)
+pcreq_by (Ok _) s h = done_quiet 41 high _ (metrics s)
+pcreq_by (Err x) s h = refused_quiet 41 high 10 x (h.numbered x refl)
 
 -- with the meaning of an include list, whose highest number is 42
 within : 35 ≤ 42
@@ -76,8 +76,8 @@ highest : 42 ≤ 42
 highest = omega arith
 
 behind_by : {A : Type 0} (v : Verdict) (o : Outcome A) → Refusing 42 v → Quiet 42 o → Quiet 42 (behind v o)
-behind_by Pass o h k = k
-behind_by (Refuse x) o h k = refused_quiet 42 within 3 x (h.numbered x refl)
+behind_by (Ok _) o h k = k
+behind_by (Err x) o h k = refused_quiet 42 within 3 x (h.numbered x refl)
 
 -- a PCRep that is read: numbers, and what goes to both kinds of buffers
 pub record QuietReading (r : Reading) : Type 0 where
@@ -86,9 +86,9 @@ pub record QuietReading (r : Reading) : Type 0 where
   pub no_metrics : (r.numbers.answer ≡ 0 → ⊥) → r.metrics ≡ []
 
 pcrep_by : (v : Verdict) (s : List ℕ) → Refusing 41 v → QuietReading (answer_pcrep v s)
-pcrep_by Pass s h =
+pcrep_by (Ok _) s h =
     record { numbers = done_numbers 41 high _; no_addresses = λ some. absurd (some refl); no_metrics = λ some. absurd (some refl) }
-pcrep_by (Refuse x) s h =
+pcrep_by (Err x) s h =
     record { numbers = refused-numbers 41 high 7 x (h.numbered x refl); no_addresses = λ some. refl; no_metrics = λ some. refl }
 
 -- ---- one law over all calls

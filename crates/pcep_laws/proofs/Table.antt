@@ -28,12 +28,10 @@ no_row true false = refl
 no_row false b = refl
 
 none_known : (k : MessageKind) (c : ℕ) (rules : List ObjectRule) → any (row k c false) rules ≡ false
-unfolding any
 none_known k c [] = refl
 none_known k c (r ∷ rules) = rw (no_row (in_message k r) (eqb c r.class)) (none_known k c rules)
 
 any-length : (n : ℕ) (k : MessageKind) (c : ℕ) (rules : List ObjectRule) → all (length_in n k c false) rules ≡ true
-unfolding all
 any-length n k c [] = refl
 any-length n k c (r ∷ rules) = rw (no_row (in_message k r) (eqb c r.class)) (any-length n k c rules)
 
@@ -47,14 +45,12 @@ module _ (k : MessageKind) (c : ℕ) (far : 18 ≤ c) where
   other d e = let l = ltb-true d 18 e in ne_eqb c d (λ x. omega arith)
 
   far_rows_known : (rules : List ObjectRule) → all (λ (r : ObjectRule). ltb r.class 18) rules ≡ true → any (row k c true) rules ≡ false
-  unfolding any all
   far_rows_known [] e = refl
   far_rows_known (r ∷ rules) e =
       let both = and_both (ltb r.class 18) (all (λ (x : ObjectRule). ltb x.class 18) rules) e in
       rw (no_class (in_message k r) (eqb c r.class) (other r.class both.0)) (far_rows_known rules both.1)
 
   far_rows_own : (n : ℕ) (rules : List ObjectRule) → all (λ (r : ObjectRule). ltb r.class 18) rules ≡ true → all (length_in n k c true) rules ≡ true
-  unfolding all
   far_rows_own n [] e = refl
   far_rows_own n (r ∷ rules) e =
       let both = and_both (ltb r.class 18) (all (λ (x : ObjectRule). ltb x.class 18) rules) e in
@@ -65,15 +61,12 @@ far_least Pcreq c h = get_or-eq_default (leasts Pcreq) 0 {n = c} h
 far_least Pcrep c h = get_or-eq_default (leasts Pcrep) 0 {n = c} h
 
 far_known : (k : MessageKind) (c : ℕ) → 18 ≤ c → any (row k c true) object_rules ≡ not (eqb (get_or (leasts k) c 0) 0)
-unfolding all
 far_known k c h = far_rows_known k c h object_rules refl ∙ sym (ap (λ (x : ℕ). not (eqb x 0)) (far_least k c h))
 
 far_own : (n : ℕ) (k : MessageKind) (c : ℕ) → 18 ≤ c → all (length_in n k c true) object_rules ≡ fits_least c (get_or (leasts k) c 0) n
-unfolding all
 far_own n k c h = far_rows_own k c h n object_rules refl ∙ sym (ap (λ (x : ℕ). fits_least c x n) (far_least k c h))
 
 known_one : (k : MessageKind) (c : ℕ) → any (row k c true) object_rules ≡ not (eqb (get_or (leasts k) c 0) 0)
-unfolding any
 known_one Pcreq zero = refl
 known_one Pcreq (suc zero) = refl
 known_one Pcreq (suc (suc zero)) = refl
@@ -114,7 +107,6 @@ known_one Pcrep (suc (suc (suc (suc (suc (suc (suc (suc (suc (suc (suc (suc (suc
 known_one Pcrep (suc (suc (suc (suc (suc (suc (suc (suc (suc (suc (suc (suc (suc (suc (suc (suc (suc (suc c)))))))))))))))))) = far_known Pcrep (suc (suc (suc (suc (suc (suc (suc (suc (suc (suc (suc (suc (suc (suc (suc (suc (suc (suc c)))))))))))))))))) (omega arith)
 
 own-one : (n : ℕ) (k : MessageKind) (c : ℕ) → all (length_in n k c true) object_rules ≡ fits_least c (get_or (leasts k) c 0) n
-unfolding all
 own-one n Pcreq zero = refl
 own-one n Pcreq (suc zero) = refl
 own-one n Pcreq (suc (suc zero)) = sym (and_all _)
@@ -165,12 +157,12 @@ module _ (k : MessageKind) (c : ℕ) where
 
   -- known exactly where the least length isn't 0
   pub known_is : (t : ℕ) → known_object k c t ≡ not (eqb (least_of k c t) 0)
-  unfolding known_object any
+  unfolding known_object
   known_is t = known_by (eqb t 1)
 
   -- the lengths that it can have
   pub own_is : (t n : ℕ) → own_length k c t n ≡ fits_least c (least_of k c t) n
-  unfolding own_length all
+  unfolding own_length
   own_is t n = own_by n (eqb t 1)
 
 -- no class but those of the table is known

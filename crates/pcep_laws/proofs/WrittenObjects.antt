@@ -9,7 +9,7 @@ use lib.ListN.{length, length-append}
 use lib.Seq.{take_at}
 use lib.Dec.{eqb}
 use borrow.Author.Tests.{le-ltb, eq-eqb}
-use Rattle.model.specs.declared.Verdict.TheVariants.{Pass}
+use Rattle.model.specs.Verdict.{Pass}
 use Rattle.model.specs.Lists.{each}
 use Rattle.model.specs.Bytes.{number, bytes_of, part}
 use Rattle.laws.proofs.Numbers.{number_shift, number-bytes_of}

@@ -57,22 +57,22 @@ written_message r = rw objects-bytes
 -- ---- each object is right
 
 rp-right : (id flags : ℕ) → RightObject Pcrep (rp_object id flags)
-unfolding bytes_of own_length known_object all any
+unfolding bytes_of own_length known_object
 rp-right id flags = record { short = omega arith; padded = refl; own = refl; welcome = refl }
 
 metric-right : (m : Metric) → RightObject Pcrep (metric_object m)
-unfolding bytes_of own_length known_object all any
+unfolding bytes_of own_length known_object
 metric-right m = record { short = omega arith; padded = refl; own = refl; welcome = refl }
 
 ero_own : (n : ℕ) → own_length Pcrep ERO 1 (4 + n) ≡ true
-unfolding own_length all
+unfolding own_length
 ero_own n = rw (le-leb 4 (4 + n) (omega arith))
 
 route-right
     : (found : Bool) (addresses : List ℕ) (nature : ℕ) (c : Bool)
     → cond found (4 + 8 * length addresses) 8 < 65536
     → RightObject Pcrep (route_object found addresses nature c)
-unfolding bytes_of own_length known_object all any
+unfolding bytes_of own_length known_object
 route-right true addresses nature c h =
     let n = steps-length addresses in
     record { short = omega arith; padded = omega arith; own = ero_own (length (each written_step addresses)); welcome = refl }

@@ -8,8 +8,7 @@ use mathlib.Core.List.{List}
 use lib.ListN.{length}
 use lib.Dec.{eqb, ltb}
 use borrow.Author.Tests.{lt-ltb, le-ltb, ltb-true, ltb-false, eq-eqb, ne_eqb}
-use Rattle.model.specs.declared.Verdict.TheVariants.{Pass}
-use Rattle.model.specs.Verdict.{refuse_if, ◌and_then◌}
+use Rattle.model.specs.Verdict.{Pass, refuse_if, ◌and_then◌}
 use Rattle.laws.proofs.Tests.{decide, and_none, not-not}
 use Rattle.pcep_model.specs.declared.MessageKind.{MessageKind}
 use Rattle.pcep_model.specs.Objects.{class_at, type_at, demanded_at, size_at, size_wrong, known_object, object_verdict}

@@ -1,4 +1,5 @@
 -- The checks of a whole message put together: where the first of them refuses, and where only what is missing decides.
+use Rattle.std.specs.Prelude.{Err}
 use Prim.Native.Nat.{ℕ, ◌≤◌}
 use native.Mathlib.Omega.{arith}
 use mathlib.Core.Path.{◌≡◌, refl, sym, subst, ◌∙◌}
@@ -7,8 +8,7 @@ use mathlib.Core.List.{List}
 use lib.ListN.{length, replicate}
 use lib.Dec.{eqb}
 use Rattle.model.specs.declared.Refusal.{Refusal}
-use Rattle.model.specs.declared.Verdict.TheVariants.{Pass, Refuse}
-use Rattle.model.specs.Verdict.{refuse_if, ◌and_then◌}
+use Rattle.model.specs.Verdict.{Pass, refuse_if, ◌and_then◌}
 use Rattle.laws.proofs.Turns.{refuse_not_pass}
 use Rattle.pcep_model.specs.declared.MessageKind.{MessageKind}
 use Rattle.pcep_model.specs.declared.MessageKind.TheVariants.{Pcreq, Pcrep}
@@ -26,9 +26,9 @@ module _ (s firsts : List ℕ) where
 module _ (k : MessageKind) (s : List ℕ) where
   -- a refusal has nothing more to say
   abbrev refused_by : Refusal → Objects
-  refused_by x = record { verdict = Refuse x; firsts = replicate 18 0 }
+  refused_by x = record { verdict = Err x; firsts = replicate 18 0 }
 
-  refused_frame : (r : Objects) (x : Refusal) → r ≡ refused_by x → Refuse x ≡ message_verdict k s → FrameIs k s r
+  refused_frame : (r : Objects) (x : Refusal) → r ≡ refused_by x → Err x ≡ message_verdict k s → FrameIs k s r
   refused_frame r x e is =
       subst (FrameIs k s) (sym e)
       (record {
@@ -46,7 +46,7 @@ module _ (k : MessageKind) (s : List ℕ) where
   by_header r e wrong = refused_frame r _ e (sym (rw wrong refl))
 
   module _ (right : header_wrong k s ≡ false) where
-    pub by_object : (r : Objects) (x : Refusal) → r ≡ refused_by x → Refuse x ≡ objects_verdict k s 4 → FrameIs k s r
+    pub by_object : (r : Objects) (x : Refusal) → r ≡ refused_by x → Err x ≡ objects_verdict k s 4 → FrameIs k s r
     unfolding message_verdict
     by_object r x e is = refused_frame r x e (sym (rw (right, sym is) refl))
 
@@ -55,7 +55,7 @@ module _ (k : MessageKind) (s : List ℕ) where
       unfolding message_verdict
       left = same-missing s firsts k are ∙ sym (rw (right, sym pass) refl)
 
-      pub by_missing : (r : Objects) (x : Refusal) → r ≡ refused_by x → Refuse x ≡ missing_verdict k firsts → FrameIs k s r
+      pub by_missing : (r : Objects) (x : Refusal) → r ≡ refused_by x → Err x ≡ missing_verdict k firsts → FrameIs k s r
       by_missing r x e is = refused_frame r x e (is ∙ left)
 
       pub complete : length firsts ≡ 18 → 4 ≤ length s → length s ≤ 65535 → Pass ≡ missing_verdict k firsts → FrameIs k s (record { verdict = Pass; firsts = firsts })

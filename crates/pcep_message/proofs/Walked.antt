@@ -1,4 +1,5 @@
 -- How far the walk along a message's objects is: what is left decides, and with the places known so far it gives the first object of each known class.
+use Rattle.std.specs.Prelude.{Err}
 use Prim.Native.Nat.{ℕ, zero, suc, ◌≤◌, ◌<◌}
 use native.Mathlib.Omega.{arith}
 use mathlib.Core.Path.{◌≡◌, refl, sym, ap, subst, ◌∙◌}
@@ -8,8 +9,8 @@ use lib.ListN.{length, get_or, replicate, set, length-set}
 use lib.Dec.{eqb}
 use borrow.Author.Tests.{eqb-true, eqb-false, ne_eqb}
 use lib.Seq.{get_or-set_same, get_or-set_other}
+use Rattle.model.specs.Verdict.{Pass}
 use Rattle.model.specs.declared.Refusal.{Refusal}
-use Rattle.model.specs.declared.Verdict.TheVariants.{Pass, Refuse}
 use Rattle.laws.proofs.Turns.{refuse_not_pass}
 use Rattle.laws.proofs.Tests.{and_all, and_none}
 use Rattle.pcep_model.specs.declared.MessageKind.{MessageKind}
@@ -86,7 +87,7 @@ module _ (k : MessageKind) (s : List ℕ) where
         )
 
     -- an object that is refused refuses the message
-    pub walk_refused : at < length s → (x : Refusal) → object_verdict k s at ≡ Refuse x → ObjectsAre k s (record { verdict = Refuse x; firsts = replicate 18 0 })
+    pub walk_refused : at < length s → (x : Refusal) → object_verdict k s at ≡ Err x → ObjectsAre k s (record { verdict = Err x; firsts = replicate 18 0 })
     walk_refused h x e =
         record {
           verdict = sym (Along.checked_refused (after_object s) (length s) (object_verdict k s) (further k s) at h x e) ∙ w.same;

@@ -1,9 +1,7 @@
 -- What the checks of a whole message answer, over `Objects` of `pcep_model`.
-use Rattle.std.specs.Prelude.{ℕ, ◌≤◌, ◌≡◌, List, length, get_or, replicate, eqb}
+use Rattle.std.specs.Prelude.{ℕ, ◌≤◌, ◌≡◌, List, length, get_or, replicate, eqb, Err}
 use Rattle.model.specs.declared.Refusal.{Refusal}
-use Rattle.model.specs.declared.Verdict.{Verdict}
-use Rattle.model.specs.declared.Verdict.TheVariants.{Pass, Refuse}
-use Rattle.model.specs.Verdict.{refuse_if, ◌and_then◌}
+use Rattle.model.specs.Verdict.{Verdict, Pass, refuse_if, ◌and_then◌}
 use Rattle.pcep_model.specs.declared.MessageKind.{MessageKind}
 use Rattle.pcep_model.specs.Objects.{RP, body_lacks, objects_verdict, message_verdict}
 use Rattle.pcep_message.specs.declared.objects.Objects.{Objects}
@@ -18,7 +16,7 @@ pub record FrameIs (k : MessageKind) (s : List ℕ) (r : Objects) : Type 0 where
   pub verdict : r.verdict ≡ message_verdict k s
   pub firsts-long : length r.firsts ≡ 18
   pub firsts : r.verdict ≡ Pass → FirstsAre k s r.firsts
-  pub none : (x : Refusal) → r.verdict ≡ Refuse x → r.firsts ≡ replicate 18 0
+  pub none : (x : Refusal) → r.verdict ≡ Err x → r.firsts ≡ replicate 18 0
   pub objects : r.verdict ≡ Pass → objects_verdict k s 4 ≡ Pass
   pub long : r.verdict ≡ Pass → 4 ≤ length s
   pub short : r.verdict ≡ Pass → length s ≤ 65535

@@ -1,7 +1,7 @@
 -- What the walk along a message's objects answers, over `Objects` of `pcep_model`.
-use Rattle.std.specs.Prelude.{ℕ, ◌%◌, ◌<◌, ◌≡◌, Bool, not, cond, ◌||◌, List, length, get_or, replicate, eqb, ltb}
+use Rattle.std.specs.Prelude.{ℕ, ◌%◌, ◌<◌, ◌≡◌, Bool, not, cond, ◌||◌, List, length, get_or, replicate, eqb, ltb, Err}
+use Rattle.model.specs.Verdict.{Pass}
 use Rattle.model.specs.declared.Refusal.{Refusal}
-use Rattle.model.specs.declared.Verdict.TheVariants.{Pass, Refuse}
 use Rattle.pcep_model.specs.declared.MessageKind.{MessageKind}
 use Rattle.pcep_model.specs.Objects.{class_at, type_at, after_object, object_verdict, objects_verdict, first_object}
 use Rattle.pcep_laws.specs.Table.{leasts, least_of, fits_least}
@@ -25,7 +25,7 @@ pub record ObjectPassed (k : MessageKind) (s : List ℕ) (at class next : ℕ) :
   pub next-is : next ≡ after_object s at
 
 abbrev pub ObjectIs : MessageKind → List ℕ → ℕ → Object → Type 0
-ObjectIs k s at (Refused x) = object_verdict k s at ≡ Refuse x
+ObjectIs k s at (Refused x) = object_verdict k s at ≡ Err x
 ObjectIs k s at (Passed class next) = ObjectPassed k s at class next
 
 -- where the first object of each class that is known in the message starts
@@ -36,4 +36,4 @@ pub record ObjectsAre (k : MessageKind) (s : List ℕ) (r : Objects) : Type 0 wh
   pub verdict : r.verdict ≡ objects_verdict k s 4
   pub firsts-long : length r.firsts ≡ 18
   pub firsts : r.verdict ≡ Pass → FirstsAre k s r.firsts
-  pub none : (x : Refusal) → r.verdict ≡ Refuse x → r.firsts ≡ replicate 18 0
+  pub none : (x : Refusal) → r.verdict ≡ Err x → r.firsts ≡ replicate 18 0

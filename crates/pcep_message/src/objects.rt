@@ -1,7 +1,6 @@
 // A PCEP message's objects in turn, 37 and 38, with where the first one of each known class starts.
 ghost use Rattle.std.specs.Prelude.{◌≡◌, ◌≤◌, ◌<◌, length, get_or, replicate, true};
 ghost use Rattle.pcep_model.specs.declared.MessageKind.TheVariants.{Pcreq, Pcrep};
-ghost use Rattle.model.specs.declared.Verdict.TheVariants.{Refuse};
 ghost use Rattle.pcep_laws.specs.Table.{leasts, least_of, fits_least};
 ghost use Rattle.pcep_laws.specs.Firsts.{noted};
 ghost use Rattle.pcep_message.specs.Walked.{size_refused, ObjectIs, ObjectsAre};

@@ -10,7 +10,7 @@ use lib.Dec.{ltb}
 use lib.ListN.{length, length-map, get_or, take, drop, set}
 use lib.Seq.{length-take-le, take_all}
 use borrow.Author.Tests.{ltb-true, ltb-false}
-use Rattle.model.specs.declared.Verdict.TheVariants.{Pass}
+use Rattle.model.specs.Verdict.{Pass}
 use Rattle.model.specs.Lists.{over}
 use Rattle.laws.proofs.Lists.{over-length, over_nothing, Copied-next}
 use Rattle.laws.proofs.Tests.{decide}

@@ -1,11 +1,11 @@
 -- What the walks along a message's METRICs ask for and answer, over `Metrics` of `pcep_model`.
 use Rattle.std.specs.Prelude.{ℕ, ◌≤◌, ◌<◌, ◌≡◌, true, List, length}
-use Rattle.model.specs.declared.Verdict.TheVariants.{Pass}
 use Rattle.pcep_model.specs.declared.MessageKind.{MessageKind}
 use Rattle.pcep_model.specs.Objects.{METRIC, is_object, objects_verdict}
 use Rattle.pcep_model.specs.Metrics.{Metric, metrics, wrong_metric, bound_metric}
 use Rattle.pcep_laws.specs.Left.{metrics_left}
 use Rattle.pcep_metrics.specs.declared.MetricScan.{MetricScan}
+use Rattle.model.specs.Verdict.{Pass}
 
 -- a message of some kind whose objects are right
 pub record Passed (s : List ℕ) : Type 0 where

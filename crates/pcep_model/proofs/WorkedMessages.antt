@@ -337,5 +337,5 @@ table = requests ++ answers ++ exchanged
 
 -- every row holds
 pub worked_messages : map (λ (r : Row). outcome r.case) table ≡ map (λ (r : Row). r.expected) table
-unfolding pcreq pcrep rp clean_rp rp_with_tlv end_points bandwidth metric14 metric13 endless iro long_iro exrs_iro late_iro empty_iro trans_iro zero_xro xro demanded_of other_of ero mixed_ero zero_ero no_path asks asks_with asks_with_both asks_more path_found none_found outcome row numbers metric unread no_answer no_reply_lem costs14 at SPUZ SQTZ SQUZ route no_route replied requests answers exchanged table profile_w count_from keep all any each among all_different sum least same below insert different number bytes_of all_zero in_turn in_ranges misplaced nobodys Profile.header_wrong Profile.counts_wrong Profile.length_wrong Profile.header_verdict Profile.domain_at Profile.domains Profile.area_length_fits Profile.domain_malformed Profile.domain_misordered Profile.domain_verdict Profile.hop_at Profile.hops Profile.hop_malformed Profile.hop_misordered Profile.hop_verdict Profile.entry_nodes Profile.crowded Profile.crowded_verdict Profile.profile_verdict Subobject.known Subobject.length_fits Subobject.field_wrong Subobject.plain_verdict Subobject.carried_verdict Subobject.subobject_verdict Subobject.named_at Subobject.form_verdict Subobject.subobjects Subobject.carried exrs_of of_system of_area enter name read_one read_all meaning in_force some_desired excluded_domain excluded_node units in_range at_least at_most float_of request_verdict sequence_of all_exclusions search_in round_of search_of Path.legs Path.keeps_bound Path.exclusions_at Path.allowed Path.hops_from Path.suffixes Path.paths Path.admissible Path.cheapest Path.shortest_paths Tree.entries_at Tree.entry Tree.tree Tree.tally build_tree first greater_than next of_bits to_bits of_fields odd size span climb of_int round is_nan Ieee.units count_trailing_zeros checked_along places_along first_of known_object own_length object_verdict first_object message_verdict metrics wrong_metric bound_metric pcreq_verdict read_pcreq pcreq_tree pcreq_first pcreq_next step_verdict addresses_in pcrep_verdict read_pcrep written_pcrep write_verdict write_pcrep metrics_of Profile.layout_in
+unfolding pcreq pcrep rp clean_rp rp_with_tlv end_points bandwidth metric14 metric13 endless iro long_iro exrs_iro late_iro empty_iro trans_iro zero_xro xro demanded_of other_of ero mixed_ero zero_ero no_path asks asks_with asks_with_both asks_more path_found none_found outcome row numbers metric unread no_answer no_reply_lem costs14 at SPUZ SQTZ SQUZ route no_route replied requests answers exchanged table profile_w count_from keep each among all_different sum least same below insert different number bytes_of all_zero in_turn in_ranges misplaced nobodys Profile.header_wrong Profile.counts_wrong Profile.length_wrong Profile.header_verdict Profile.domain_at Profile.domains Profile.area_length_fits Profile.domain_malformed Profile.domain_misordered Profile.domain_verdict Profile.hop_at Profile.hops Profile.hop_malformed Profile.hop_misordered Profile.hop_verdict Profile.entry_nodes Profile.crowded Profile.crowded_verdict Profile.profile_verdict Subobject.known Subobject.length_fits Subobject.field_wrong Subobject.plain_verdict Subobject.carried_verdict Subobject.subobject_verdict Subobject.named_at Subobject.form_verdict Subobject.subobjects Subobject.carried exrs_of of_system of_area enter name read_one read_all meaning in_force some_desired excluded_domain excluded_node units in_range at_least at_most float_of request_verdict sequence_of all_exclusions search_in round_of search_of Path.legs Path.keeps_bound Path.exclusions_at Path.allowed Path.hops_from Path.suffixes Path.paths Path.admissible Path.cheapest Path.shortest_paths Tree.entries_at Tree.entry Tree.tree Tree.tally build_tree first greater_than next of_bits to_bits of_fields odd size span climb of_int round is_nan Ieee.units count_trailing_zeros checked_along places_along first_of known_object own_length object_verdict first_object message_verdict metrics wrong_metric bound_metric pcreq_verdict read_pcreq pcreq_tree pcreq_first pcreq_next step_verdict addresses_in pcrep_verdict read_pcrep written_pcrep write_verdict write_pcrep metrics_of Profile.layout_in
 worked_messages = refl

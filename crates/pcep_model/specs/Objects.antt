@@ -1,9 +1,8 @@
 -- The common header of a PCEP message, and its objects in turn: document 02's request [3], numbers 36 to 41, over the layouts of RFC 5440 and RFC 5521.
 use Rattle.std.specs.Prelude.{ℕ, ◌+◌, ◌/◌, ◌%◌, Bool, true, false, not, ◌&&◌, ◌||◌, List, [], ◌∷◌, length, get_or, eqb, leb, ltb}
-use Rattle.model.specs.declared.Verdict.{Verdict}
 use Rattle.model.specs.Lists.{all, any}
 use Rattle.model.specs.Bytes.{number}
-use Rattle.model.specs.Verdict.{refuse_if, ◌and_then◌}
+use Rattle.model.specs.Verdict.{Verdict, refuse_if, ◌and_then◌}
 use Rattle.model.specs.Along.{checked_from, places_from, first_of}
 use Rattle.pcep_model.specs.declared.MessageKind.{MessageKind}
 use Rattle.pcep_model.specs.declared.MessageKind.TheVariants.{Pcreq, Pcrep}

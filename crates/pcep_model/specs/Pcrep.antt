@@ -1,11 +1,10 @@
 -- The fields of a PCRep, the message that is written for them, and the whole outcome of reading and writing one: document 02's request [3].
-use Rattle.std.specs.Prelude.{ℕ, ◌+◌, ◌-◌, ◌*◌, ◌%◌, Bool, true, false, not, cond, ◌&&◌, ◌||◌, List, [], ◌∷◌, ◌++◌, map, length, get_or, eqb, leb, ltb}
+use Rattle.std.specs.Prelude.{ℕ, ◌+◌, ◌-◌, ◌*◌, ◌%◌, Bool, true, false, not, cond, ◌&&◌, ◌||◌, List, [], ◌∷◌, ◌++◌, map, length, get_or, eqb, leb, ltb, Result, Ok, Err}
+use Rattle.model.specs.declared.Refusal.{Refusal}
 use Rattle.model.specs.declared.ListKind.TheVariants.{Include}
-use Rattle.model.specs.declared.Verdict.{Verdict}
-use Rattle.model.specs.declared.Verdict.TheVariants.{Pass, Refuse}
 use Rattle.model.specs.Lists.{any, each}
 use Rattle.model.specs.Bytes.{number, bytes_of, part}
-use Rattle.model.specs.Verdict.{refuse_if, ◌and_then◌}
+use Rattle.model.specs.Verdict.{Verdict, refuse_if, ◌and_then◌}
 use Rattle.model.specs.Along.{checked_from, places_from}
 use Rattle.model.specs.Subobject as Subobject
 use Rattle.model.specs.Answers.{Numbers}
@@ -13,8 +12,6 @@ use Rattle.model.specs.Calls.{Outcome, room_verdict, answer_write}
 use Rattle.pcep_model.specs.declared.MessageKind.{MessageKind}
 use Rattle.pcep_model.specs.declared.MessageKind.TheVariants.{Pcrep}
 use Rattle.pcep_model.specs.declared.PcrepFields.{PcrepFields}
-use Rattle.pcep_model.specs.declared.PcrepAnswer.{PcrepAnswer}
-use Rattle.pcep_model.specs.declared.PcrepAnswer.TheVariants as Answer
 use Rattle.pcep_model.specs.Objects.{RP, NO-PATH, METRIC, ERO, size_at, first_object, type_number, message_verdict}
 use Rattle.pcep_model.specs.Metrics.{Metric, metrics, out_of_range, wrong_metric}
 use Rattle.pcep_model.specs.Pcreq.{rp_flags_of, request_id_of}
@@ -76,10 +73,10 @@ mark true = 1
 mark false = 0
 
 -- others: place, request-ID, RP flags, found, nature of issue, C, addresses, METRICs
-abbrev pub numbers_of_pcrep : PcrepAnswer → Numbers
-numbers_of_pcrep (Answer.Read f) =
+abbrev pub numbers_of_pcrep : Result PcrepFields Refusal → Numbers
+numbers_of_pcrep (Ok f) =
     record { answer = 0; others = 0 ∷ f.id ∷ f.flags ∷ mark f.found ∷ f.nature ∷ mark f.c ∷ f.addresses ∷ f.metrics ∷ [] }
-numbers_of_pcrep (Answer.Refused r) = record { answer = r.number; others = r.place ∷ 0 ∷ 0 ∷ 0 ∷ 0 ∷ 0 ∷ 0 ∷ 0 ∷ [] }
+numbers_of_pcrep (Err r) = record { answer = r.number; others = r.place ∷ 0 ∷ 0 ∷ 0 ∷ 0 ∷ 0 ∷ 0 ∷ 0 ∷ [] }
 
 unfoldable pub pcrep_verdict : List ℕ → ℕ → ℕ → Verdict
 pcrep_verdict s address_room metric_room =
@@ -96,8 +93,8 @@ pub record Reading : Type 0 where
   pub metrics : List Metric
 
 abbrev pub answer_pcrep : Verdict → List ℕ → Reading
-answer_pcrep (Refuse r) s = record { numbers = numbers_of_pcrep (Answer.Refused r); addresses = []; metrics = [] }
-answer_pcrep Pass s = record { numbers = numbers_of_pcrep (Answer.Read (pcrep_fields s)); addresses = addresses_in (route_in s); metrics = metrics s }
+answer_pcrep (Err r) s = record { numbers = numbers_of_pcrep (Err r); addresses = []; metrics = [] }
+answer_pcrep (Ok _) s = record { numbers = numbers_of_pcrep (Ok (pcrep_fields s)); addresses = addresses_in (route_in s); metrics = metrics s }
 
 unfoldable pub read_pcrep : List ℕ → ℕ → ℕ → Reading
 read_pcrep s address_room metric_room = answer_pcrep (pcrep_verdict s address_room metric_room) s

@@ -1,11 +1,10 @@
 -- The fields of a PCReq, the request that it carries, and the whole outcome of each call that takes one: document 02's request [3].
-use Rattle.std.specs.Prelude.{ℕ, ◌+◌, ◌-◌, ◌%◌, Bool, not, cond, List, [], ◌∷◌, length, eqb}
+use Rattle.std.specs.Prelude.{ℕ, ◌+◌, ◌-◌, ◌%◌, Bool, not, cond, List, [], ◌∷◌, length, eqb, Result, Ok, Err}
+use Rattle.model.specs.declared.Refusal.{Refusal}
 use Rattle.model.specs.declared.Limits.{Limits}
 use Rattle.model.specs.declared.TreeEntry.{TreeEntry}
-use Rattle.model.specs.declared.Verdict.{Verdict}
-use Rattle.model.specs.declared.Verdict.TheVariants.{Pass, Refuse}
 use Rattle.model.specs.Bytes.{number, part}
-use Rattle.model.specs.Verdict.{refuse_if, ◌and_then◌}
+use Rattle.model.specs.Verdict.{Verdict, refuse_if, ◌and_then◌}
 use Rattle.model.specs.Request.{Request, limits_of_bits, sizes_verdict, forms_verdict}
 use Rattle.model.specs.Answers.{Numbers, refused4}
 use Rattle.model.specs.Calls.{Outcome, nothing, room_verdict, build_tree, first, next}
@@ -13,8 +12,6 @@ use Rattle.model.specs.Series.{Kind, first_call, next_call, Call, Reply, reply_t
 use Rattle.pcep_model.specs.declared.Extent.{Extent}
 use Rattle.pcep_model.specs.declared.MessageKind.TheVariants.{Pcreq}
 use Rattle.pcep_model.specs.declared.PcreqFields.{PcreqFields}
-use Rattle.pcep_model.specs.declared.PcreqAnswer.{PcreqAnswer}
-use Rattle.pcep_model.specs.declared.PcreqAnswer.TheVariants as Answer
 use Rattle.pcep_model.specs.Objects.{RP, END-POINTS, BANDWIDTH, IRO, XRO, size_at, first_object, message_verdict}
 use Rattle.pcep_model.specs.Metrics.{Metric, metrics, value_at, out_of_range, wrong_metric, bound_metric}
 
@@ -76,8 +73,8 @@ pcreq_fields s =
 -- ---- read_pcreq: the checks whose inputs it takes, then the capacity for the METRICs
 
 -- others: place, request-ID, RP flags, source, destination, bandwidth bits, METRICs, then offset and length of the include list and of the exclude list
-abbrev pub numbers_of_pcreq : PcreqAnswer → Numbers
-numbers_of_pcreq (Answer.Read f) =
+abbrev pub numbers_of_pcreq : Result PcreqFields Refusal → Numbers
+numbers_of_pcreq (Ok f) =
     record {
       answer = 0;
       others =
@@ -94,7 +91,7 @@ numbers_of_pcreq (Answer.Read f) =
           ∷ f.exclude.size
           ∷ [];
     }
-numbers_of_pcreq (Answer.Refused r) = record { answer = r.number; others = r.place ∷ 0 ∷ 0 ∷ 0 ∷ 0 ∷ 0 ∷ 0 ∷ 0 ∷ 0 ∷ 0 ∷ 0 ∷ [] }
+numbers_of_pcreq (Err r) = record { answer = r.number; others = r.place ∷ 0 ∷ 0 ∷ 0 ∷ 0 ∷ 0 ∷ 0 ∷ 0 ∷ 0 ∷ 0 ∷ 0 ∷ [] }
 
 -- 21 at place 0 for the BANDWIDTH, 21 at place 1 for any METRIC
 abbrev pub floats_by : ℕ → Bool → Verdict
@@ -112,8 +109,8 @@ pcreq_verdict s room =
     and_then room_verdict (length (metrics s)) room
 
 abbrev pub answer_pcreq : Verdict → List ℕ → Outcome Metric
-answer_pcreq (Refuse r) s = nothing (numbers_of_pcreq (Answer.Refused r))
-answer_pcreq Pass s = record { numbers = numbers_of_pcreq (Answer.Read (pcreq_fields s)); written = metrics s }
+answer_pcreq (Err r) s = nothing (numbers_of_pcreq (Err r))
+answer_pcreq (Ok _) s = record { numbers = numbers_of_pcreq (Ok (pcreq_fields s)); written = metrics s }
 
 unfoldable pub read_pcreq : List ℕ → ℕ → Outcome Metric
 read_pcreq s room = answer_pcreq (pcreq_verdict s room) s
@@ -143,8 +140,8 @@ carried profile ingress s =
 -- ---- tree, first and next through a PCReq: 36 to 40, then what the call answers on the request that is carried
 
 abbrev pub behind : {A : Type 0} → Verdict → Outcome A → Outcome A
-behind (Refuse r) o = nothing (refused4 r)
-behind Pass o = o
+behind (Err r) o = nothing (refused4 r)
+behind (Ok _) o = o
 
 unfoldable pub pcreq_tree : List ℕ → ℕ → List ℕ → ℕ → Outcome TreeEntry
 pcreq_tree profile ingress s room = behind (message_verdict Pcreq s) (build_tree (carried profile ingress s) room)

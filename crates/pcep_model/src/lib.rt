@@ -1,7 +1,7 @@
-// The types of PCEP messages: which message is read, and the answers of the calls that read one. What is right is said in specs/.
+// The types of PCEP messages: which message is read, and what the calls that read one tell of it. What is right is said in specs/.
 #![tactic(auto)]
 
-use model::{NodeAddress, Refusal};
+use model::NodeAddress;
 
 // Which message is read: a request to compute paths, or the reply to one.
 #[derive(Clone, Copy)]
@@ -31,12 +31,6 @@ pub struct PcreqFields {
     pub exclude: Extent,
 }
 
-#[derive(Clone, Copy)]
-pub enum PcreqAnswer {
-    Read(PcreqFields),
-    Refused(Refusal),
-}
-
 // The fields of a PCRep but for its addresses and METRICs, of which it has the numbers: RP's as above, whether there is a path, and a NO-PATH's
 // nature of issue and C.
 #[derive(Clone, Copy)]
@@ -48,10 +42,4 @@ pub struct PcrepFields {
     pub c: bool,
     pub addresses: u32,
     pub metrics: u32,
-}
-
-#[derive(Clone, Copy)]
-pub enum PcrepAnswer {
-    Read(PcrepFields),
-    Refused(Refusal),
 }

@@ -1,11 +1,11 @@
 -- What is answered and left in the buffers is the outcome of `read_pcrep`: on a refusal nothing is written, else addresses and METRICs are.
+use Rattle.std.specs.Prelude.{Err}
 use Prim.Native.Nat.{ℕ}
 use mathlib.Core.Path.{◌≡◌, sym, ap, ◌∙◌}
 use mathlib.Core.List.{List, map}
 use lib.ListN.{length}
+use Rattle.model.specs.Verdict.{Verdict, Pass}
 use Rattle.model.specs.declared.Refusal.{Refusal}
-use Rattle.model.specs.declared.Verdict.{Verdict}
-use Rattle.model.specs.declared.Verdict.TheVariants.{Pass, Refuse}
 use Rattle.model.specs.Lists.{over}
 use Rattle.laws.proofs.Lists.{over_nothing}
 use Rattle.pcep_model.specs.declared.PcrepFields.{PcrepFields}
@@ -24,9 +24,9 @@ module _ (s addresses kinds flags values : List ℕ) where
   unfolding read_pcrep
   outcome v e = ap (λ (x : Verdict). answer_pcrep x s) e
 
-  pub read-refused : (x : Refusal) → judged ≡ Refuse x → ReadBy s addresses kinds flags values (Refused x) addresses kinds flags values
+  pub read-refused : (x : Refusal) → judged ≡ Err x → ReadBy s addresses kinds flags values (Refused x) addresses kinds flags values
   read-refused x e =
-      let o = outcome (Refuse x) e in
+      let o = outcome (Err x) e in
       record {
         numbers = sym (ap (λ (p : Reading). p.numbers) o);
         in_addresses = sym (ap (λ (p : Reading). over p.addresses addresses) o ∙ over_nothing addresses);

@@ -1,4 +1,5 @@
 -- The checks of a PCRep put together: a refusal of the frame, of a METRIC, or of what is behind them; and what is known where all pass.
+use Rattle.std.specs.Prelude.{Err}
 use Prim.Native.Nat.{ℕ, ◌+◌, ◌≤◌}
 use native.Mathlib.Omega.{arith}
 use mathlib.Core.Path.{◌≡◌, refl, sym, ◌∙◌}
@@ -8,8 +9,7 @@ use lib.ListN.{length, drop, length-take, length-drop}
 use lib.Dec.{ltb}
 use borrow.Author.Tests.{ltb-false, eq-eqb, ne_eqb}
 use Rattle.model.specs.declared.Refusal.{Refusal}
-use Rattle.model.specs.declared.Verdict.TheVariants.{Pass, Refuse}
-use Rattle.model.specs.Verdict.{refuse_if, ◌and_then◌}
+use Rattle.model.specs.Verdict.{Pass, refuse_if, ◌and_then◌}
 use Rattle.model.specs.Calls.{room_verdict}
 use Rattle.laws.proofs.Turns.{and_then_pass, refuse_if_pass}
 use Rattle.pcep_model.specs.declared.Extent.{Extent}
@@ -35,7 +35,7 @@ rest_form body count address_room metric_room e =
     ).0
 
 module _ (s : List ℕ) (address_room metric_room : ℕ) where
-  pub by_frame : (x : Refusal) → message_verdict Pcrep s ≡ Refuse x → pcrep_verdict s address_room metric_room ≡ Refuse x
+  pub by_frame : (x : Refusal) → message_verdict Pcrep s ≡ Err x → pcrep_verdict s address_room metric_room ≡ Err x
   unfolding pcrep_verdict
   by_frame x e = rw e refl
 

@@ -7,7 +7,7 @@ use mathlib.Core.List.{List, []}
 use lib.ListN.{get_or}
 use lib.Dec.{eqb, leb, ltb}
 use borrow.Author.Tests.{eqb-false, eq-eqb, not-true}
-use Rattle.model.specs.declared.Verdict.TheVariants.{Pass}
+use Rattle.model.specs.Verdict.{Pass}
 use Rattle.model.specs.Bytes.{part}
 use Rattle.laws.proofs.Tests.{and_both, and-false, or_neither, clash, not-not}
 use Rattle.pcep_model.specs.declared.Extent.{Extent}

@@ -1,8 +1,6 @@
 -- What the checks of a PCRep answer, over `Pcrep` of `pcep_model`.
-use Rattle.std.specs.Prelude.{ℕ, ◌+◌, ◌≤◌, ◌≡◌, cond, ◌&&◌, List, length, get_or, eqb, leb}
-use Rattle.model.specs.declared.Verdict.{Verdict}
-use Rattle.model.specs.declared.Verdict.TheVariants.{Pass, Refuse}
-use Rattle.model.specs.Verdict.{◌and_then◌}
+use Rattle.std.specs.Prelude.{ℕ, ◌+◌, ◌≤◌, ◌≡◌, cond, ◌&&◌, List, length, get_or, eqb, leb, Err}
+use Rattle.model.specs.Verdict.{Verdict, Pass, ◌and_then◌}
 use Rattle.model.specs.Calls.{room_verdict}
 use Rattle.pcep_model.specs.declared.Extent.{Extent}
 use Rattle.pcep_model.specs.declared.MessageKind.TheVariants.{Pcrep}
@@ -53,5 +51,5 @@ pub record PassedPcrep (s : List ℕ) (address_room metric_room : ℕ) (f : Pcre
   pub metrics-fit : length (metrics s) ≤ metric_room
 
 abbrev pub CheckedPcrepIs : List ℕ → ℕ → ℕ → CheckedPcrep → Type 0
-CheckedPcrepIs s address_room metric_room (Checked.Refused r) = pcrep_verdict s address_room metric_room ≡ Refuse r
+CheckedPcrepIs s address_room metric_room (Checked.Refused r) = pcrep_verdict s address_room metric_room ≡ Err r
 CheckedPcrepIs s address_room metric_room (Checked.Passed f x) = PassedPcrep s address_room metric_room f x

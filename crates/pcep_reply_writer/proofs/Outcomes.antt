@@ -1,4 +1,5 @@
 -- The outcomes of `write_pcrep`: 37, 21, 34, or the message. By which of the checks of `write_verdict` refuses, in terms of the message's length.
+use Rattle.std.specs.Prelude.{Err}
 use Prim.Native.Nat.{ℕ, min, ◌+◌, ◌*◌}
 use native.Mathlib.Nat.{zero-add}
 use native.Mathlib.Omega.{arith}
@@ -10,12 +11,10 @@ use lib.Dec.{eqb, ltb}
 use lib.ListN.{length, drop}
 use borrow.Author.Tests.{eqb-true, ltb-true, ltb-false, lt-ltb, not-false}
 use Rattle.model.specs.declared.Refusal.{Refusal}
-use Rattle.model.specs.declared.Verdict.{Verdict}
-use Rattle.model.specs.declared.Verdict.TheVariants.{Pass, Refuse}
 use Rattle.model.specs.declared.WriteAnswer.{WriteAnswer}
 use Rattle.model.specs.declared.WriteAnswer.TheVariants.{Written, Refused}
 use Rattle.model.specs.Lists.{any, over}
-use Rattle.model.specs.Verdict.{refuse_if, ◌and_then◌}
+use Rattle.model.specs.Verdict.{Verdict, Pass, refuse_if, ◌and_then◌}
 use Rattle.model.specs.Answers.{numbers_of_write, refused2, done2}
 use Rattle.model.specs.Calls.{Outcome, nothing, room_verdict, answer_write}
 use Rattle.laws.proofs.Tests.{decide, or_neither}
@@ -41,8 +40,8 @@ module _ (r : Reply) (unequal : Bool) (entry : List ℕ) where
   by_outcome exit answer o e n b =
       record { numbers = n ∙ ap (λ (x : Outcome ℕ). x.numbers) (sym e); buffer = b ∙ ap (λ (x : Outcome ℕ). over x.written entry) (sym e) }
 
-  refused : (x : Refusal) → write_verdict r unequal (length entry) ≡ Refuse x → WrittenReply r unequal entry entry (Refused x)
-  refused x e = by_outcome entry (Refused x) (nothing (refused2 x)) (outcome (Refuse x) e) refl (sym (over_nothing entry))
+  refused : (x : Refusal) → write_verdict r unequal (length entry) ≡ Err x → WrittenReply r unequal entry entry (Refused x)
+  refused x e = by_outcome entry (Refused x) (nothing (refused2 x)) (outcome (Err x) e) refl (sym (over_nothing entry))
 
   all_written
       : (exit : List ℕ) (n after : ℕ) → write_verdict r unequal (length entry) ≡ Pass → n ≡ length (written_pcrep r)
@@ -59,7 +58,7 @@ module _ (r : Reply) (unequal : Bool) (entry : List ℕ) where
 -- a METRIC is out of range just when its value is
 values-range : (kinds flags values : List ℕ) → length flags ≡ length kinds → length values ≡ length kinds
     → any (λ (m : Metric). out_of_range m.value) (metrics_of kinds flags values) ≡ any out_of_range values
-unfolding metrics_of any
+unfolding metrics_of
 values-range [] flags [] h k = refl
 values-range [] flags (v ∷ vs) h k = absurd (omega arith)
 values-range (x ∷ ks) [] values h k = absurd (omega arith)
@@ -139,7 +138,7 @@ module _ (id flags : ℕ) (found : Bool) (addresses : List ℕ) (nature : ℕ) (
     same : write_verdict reply (apart kinds metric_flags values) (length entry) ≡ v
     same = judged size (length entry) told ∙ sym e
 
-    pub refused-reply : (x : Refusal) → v ≡ Refuse x → WrittenReply reply (apart kinds metric_flags values) entry entry (Refused x)
+    pub refused-reply : (x : Refusal) → v ≡ Err x → WrittenReply reply (apart kinds metric_flags values) entry entry (Refused x)
     refused-reply x r = refused reply (apart kinds metric_flags values) entry x (same ∙ r)
 
     pub written-reply : v ≡ Pass → (exit : List ℕ) (after : ℕ) → Put 0 (written_pcrep reply) entry exit after

@@ -1,9 +1,8 @@
 -- What the parts of `write_pcrep` promise, over the definitions of `pcep_model`.
 use Rattle.std.specs.Prelude.{◌≡◌, Bool, not, ◌||◌, List, ℕ, ◌≤◌, eqb, ltb, length}
-use Rattle.model.specs.declared.Verdict.{Verdict}
 use Rattle.model.specs.declared.WriteAnswer.{WriteAnswer}
 use Rattle.model.specs.Lists.{any, over}
-use Rattle.model.specs.Verdict.{refuse_if, ◌and_then◌}
+use Rattle.model.specs.Verdict.{Verdict, refuse_if, ◌and_then◌}
 use Rattle.model.specs.Answers.{numbers_of_write}
 use Rattle.model.specs.Calls.{room_verdict}
 use Rattle.pcep_model.specs.Metrics.{out_of_range}

@@ -1,13 +1,13 @@
 -- A call through a PCReq is the frame's refusal, or the call on the request that is carried: one law for trees and one for paths.
+use Rattle.std.specs.Prelude.{Err}
 use Prim.Native.Nat.{ℕ}
 use mathlib.Core.Path.{◌≡◌, refl, sym, ap, subst}
 use mathlib.Core.List.{List}
+use Rattle.model.specs.Verdict.{Verdict, Pass}
 use Rattle.model.specs.declared.PathAnswer.TheVariants as Path
 use Rattle.model.specs.declared.Refusal.{Refusal}
 use Rattle.model.specs.declared.TreeAnswer.TheVariants as Tree
 use Rattle.model.specs.declared.TreeEntry.{TreeEntry}
-use Rattle.model.specs.declared.Verdict.{Verdict}
-use Rattle.model.specs.declared.Verdict.TheVariants.{Pass, Refuse}
 use Rattle.model.specs.Calls.{Outcome}
 use Rattle.laws.proofs.Lists.{over_nothing}
 use Rattle.request.specs.CheckedRequest.{request_for}
@@ -19,19 +19,19 @@ use Rattle.pcep_request_reader.specs.Carried.{CarriedRequestIs}
 use Rattle.pcep_request_calls.specs.Through.{PathIn}
 
 module _ {A : Type 0} where
-  behind-refused : (v : Verdict) (o : Outcome A) (x : Refusal) → v ≡ Refuse x → behind v o ≡ behind (Refuse x) o
+  behind-refused : (v : Verdict) (o : Outcome A) (x : Refusal) → v ≡ Err x → behind v o ≡ behind (Err x) o
   behind-refused v o x e = ap (λ (w : Verdict). behind w o) e
 
   pub behind-passed : (v : Verdict) (o : Outcome A) → v ≡ Pass → behind v o ≡ o
   behind-passed v o e = ap (λ (w : Verdict). behind w o) e
 
-pub path_refused : (v : Verdict) (o : Outcome ℕ) (path : List ℕ) (x : Refusal) → v ≡ Refuse x → PathIn (behind v o) path (Path.Refused x) path
+pub path_refused : (v : Verdict) (o : Outcome ℕ) (path : List ℕ) (x : Refusal) → v ≡ Err x → PathIn (behind v o) path (Path.Refused x) path
 path_refused v o path x e =
     subst (λ (b : Outcome ℕ). PathIn b path (Path.Refused x) path) (sym (behind-refused v o x e))
     (record { real = λ total y round f. absurd (not_found x total y round f); numbers = refl; in_path = sym (over_nothing path) })
 
 pub tree-refused
-    : (v : Verdict) (o : Outcome TreeEntry) (levels addresses marks costs : List ℕ) (x : Refusal) → v ≡ Refuse x
+    : (v : Verdict) (o : Outcome TreeEntry) (levels addresses marks costs : List ℕ) (x : Refusal) → v ≡ Err x
     → TreeIn (behind v o) levels addresses marks costs (Tree.Refused x) levels addresses marks costs
 tree-refused v o levels addresses marks costs x e =
     subst (λ (b : Outcome TreeEntry). TreeIn b levels addresses marks costs (Tree.Refused x) levels addresses marks costs) (sym (behind-refused v o x e))

@@ -1,10 +1,10 @@
 -- What is answered and left in the buffers is the outcome of `read_pcreq`: on a refusal nothing is written, else the METRICs are.
+use Rattle.std.specs.Prelude.{Err}
 use Prim.Native.Nat.{ℕ}
 use mathlib.Core.Path.{◌≡◌, sym, ap, ◌∙◌}
 use mathlib.Core.List.{List, map}
+use Rattle.model.specs.Verdict.{Verdict, Pass}
 use Rattle.model.specs.declared.Refusal.{Refusal}
-use Rattle.model.specs.declared.Verdict.{Verdict}
-use Rattle.model.specs.declared.Verdict.TheVariants.{Pass, Refuse}
 use Rattle.model.specs.Lists.{over}
 use Rattle.model.specs.Calls.{Outcome}
 use Rattle.laws.proofs.Lists.{over_nothing}
@@ -24,9 +24,9 @@ module _ (s kinds flags values : List ℕ) where
   unfolding read_pcreq
   outcome v e = ap (λ (x : Verdict). answer_pcreq x s) e
 
-  pub read-refused : (x : Refusal) → pcreq_verdict s room ≡ Refuse x → ReadBy s kinds flags values (Refused x) kinds flags values
+  pub read-refused : (x : Refusal) → pcreq_verdict s room ≡ Err x → ReadBy s kinds flags values (Refused x) kinds flags values
   read-refused x e =
-      let o = outcome (Refuse x) e in
+      let o = outcome (Err x) e in
       record {
         numbers = sym (ap (λ (p : Outcome Metric). p.numbers) o);
         in_kinds = sym (ap (λ (p : Outcome Metric). over (map kind_of p.written) kinds) o ∙ over_nothing kinds);

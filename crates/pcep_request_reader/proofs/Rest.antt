@@ -1,4 +1,5 @@
 -- The checks behind the frame's, one by one: each refusal is the first that refuses, and where none does the message passes.
+use Rattle.std.specs.Prelude.{Err}
 use Prim.Native.Nat.{ℕ}
 use mathlib.Core.Path.{◌≡◌, refl, sym, ap, ap₂, ◌∙◌}
 use mathlib.Core.Bool.{Bool}
@@ -7,9 +8,7 @@ use lib.ListN.{length}
 use lib.Dec.{ltb}
 use borrow.Author.Tests.{ltb-false}
 use Rattle.model.specs.declared.Refusal.{Refusal}
-use Rattle.model.specs.declared.Verdict.{Verdict}
-use Rattle.model.specs.declared.Verdict.TheVariants.{Pass, Refuse}
-use Rattle.model.specs.Verdict.{◌and_then◌}
+use Rattle.model.specs.Verdict.{Verdict, Pass, ◌and_then◌}
 use Rattle.model.specs.Request.{sizes_verdict, forms_verdict}
 use Rattle.model.specs.Calls.{room_verdict}
 use Rattle.laws.proofs.Turns.{and_then_pass, refuse_if_pass}
@@ -38,15 +37,15 @@ module _ (s : List ℕ) (t : PcreqParts) (is : PartsAre s t) where
   floats_told v w e q = sym floats_are ∙ sym e ∙ q
 
   module _ (room : ℕ) where
-    pub by_floats : (x : Refusal) → floats_verdict s ≡ Refuse x → Refuse x ≡ rest_verdict s room
+    pub by_floats : (x : Refusal) → floats_verdict s ≡ Err x → Err x ≡ rest_verdict s room
     by_floats x e = sym (rw e refl)
 
     module _ (floats : floats_verdict s ≡ Pass) where
-      pub by_sizes : (x : Refusal) → sizes_verdict (list_in s (include_extent s)) (list_in s (exclude_extent s)) ≡ Refuse x → Refuse x ≡ rest_verdict s room
+      pub by_sizes : (x : Refusal) → sizes_verdict (list_in s (include_extent s)) (list_in s (exclude_extent s)) ≡ Err x → Err x ≡ rest_verdict s room
       by_sizes x e = sym (rw (floats, e) refl)
 
       module _ (sizes : sizes_verdict (list_in s (include_extent s)) (list_in s (exclude_extent s)) ≡ Pass) where
-        pub by_forms : (x : Refusal) → forms_verdict (list_in s (include_extent s)) (list_in s (exclude_extent s)) ≡ Refuse x → Refuse x ≡ rest_verdict s room
+        pub by_forms : (x : Refusal) → forms_verdict (list_in s (include_extent s)) (list_in s (exclude_extent s)) ≡ Err x → Err x ≡ rest_verdict s room
         by_forms x e = sym (rw (floats, sizes, e) refl)
 
         module _ (forms : forms_verdict (list_in s (include_extent s)) (list_in s (exclude_extent s)) ≡ Pass) where
@@ -56,7 +55,7 @@ module _ (s : List ℕ) (t : PcreqParts) (is : PartsAre s t) where
 -- ---- with the frame's
 
 module _ (s : List ℕ) (room : ℕ) where
-  pub by_frame : (x : Refusal) → message_verdict Pcreq s ≡ Refuse x → pcreq_verdict s room ≡ Refuse x
+  pub by_frame : (x : Refusal) → message_verdict Pcreq s ≡ Err x → pcreq_verdict s room ≡ Err x
   unfolding pcreq_verdict
   by_frame x e = rw e refl
 

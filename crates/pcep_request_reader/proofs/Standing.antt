@@ -6,7 +6,6 @@ use mathlib.Core.Bool.{Bool, true, false, cond}
 use mathlib.Core.List.{List}
 use lib.ListN.{length, get_or}
 use lib.Dec.{eqb}
-use Rattle.model.specs.declared.Verdict.TheVariants.{Pass}
 use Rattle.pcep_model.specs.declared.MessageKind.TheVariants.{Pcreq}
 use Rattle.pcep_model.specs.Objects.{RP, END-POINTS, objects_verdict}
 use Rattle.pcep_model.specs.Metrics.{metrics, wrong_metric, bound_metric}
@@ -19,6 +18,7 @@ use Rattle.pcep_message.specs.declared.objects.Objects.{Objects}
 use Rattle.pcep_message.specs.Framed.{FrameIs}
 use Rattle.pcep_metrics.specs.Along.{Passed}
 use Rattle.pcep_request_reader.specs.ParsedPcreq.{Framed}
+use Rattle.model.specs.Verdict.{Pass}
 
 module _ (s firsts : List ℕ) (count : ℕ) (f : Framed s firsts count) where
   pub there : (c : ℕ) → 0 < get_or (leasts Pcreq) c 0 → (get_or firsts c 0 ≡ 0 → ⊥) → Stands s (get_or firsts c 0) (get_or (leasts Pcreq) c 0)

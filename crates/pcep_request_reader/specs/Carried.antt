@@ -1,6 +1,5 @@
 -- What a PCReq carries as a call takes it, over `Pcreq` of `pcep_model`.
-use Rattle.std.specs.Prelude.{ℕ, ◌+◌, ◌≤◌, ◌≡◌, List, length}
-use Rattle.model.specs.declared.Verdict.TheVariants.{Pass, Refuse}
+use Rattle.std.specs.Prelude.{ℕ, ◌+◌, ◌≤◌, ◌≡◌, List, length, Err}
 use Rattle.request.specs.CheckedRequest.{request_for}
 use Rattle.pcep_model.specs.declared.MessageKind.TheVariants.{Pcreq}
 use Rattle.pcep_model.specs.Objects.{message_verdict}
@@ -8,6 +7,7 @@ use Rattle.pcep_model.specs.Pcreq.{list_in, carried}
 use Rattle.pcep_request_reader.specs.declared.carried.Carried.{Carried}
 use Rattle.pcep_request_reader.specs.declared.carried.Carried.TheVariants.{Refused, Request}
 use Rattle.pcep_request_reader.specs.declared.carried.CarriedRequest.{CarriedRequest}
+use Rattle.model.specs.Verdict.{Pass}
 
 -- the request carried by a message whose frame passes, with the ingress domain beside it, whatever the profile
 pub record CarriedRequestIs (ingress : ℕ) (s : List ℕ) (r : CarriedRequest) : Type 0 where
@@ -19,5 +19,5 @@ pub record CarriedRequestIs (ingress : ℕ) (s : List ℕ) (r : CarriedRequest) 
   pub exclude-inside : r.exclude.start + r.exclude.size ≤ length s
 
 abbrev pub CarriedIs : ℕ → List ℕ → Carried → Type 0
-CarriedIs ingress s (Refused x) = message_verdict Pcreq s ≡ Refuse x
+CarriedIs ingress s (Refused x) = message_verdict Pcreq s ≡ Err x
 CarriedIs ingress s (Request r) = CarriedRequestIs ingress s r

@@ -1,6 +1,5 @@
 -- What a PCReq taken apart is, over `Pcreq` of `pcep_model`.
-use Rattle.std.specs.Prelude.{ℕ, ◌+◌, ◌≤◌, ◌≡◌, not, List, length, eqb}
-use Rattle.model.specs.declared.Verdict.TheVariants.{Pass, Refuse}
+use Rattle.std.specs.Prelude.{ℕ, ◌+◌, ◌≤◌, ◌≡◌, not, List, length, eqb, Err}
 use Rattle.pcep_model.specs.declared.MessageKind.TheVariants.{Pcreq}
 use Rattle.pcep_model.specs.declared.PcreqFields.{PcreqFields}
 use Rattle.pcep_model.specs.Objects.{message_verdict, objects_verdict, first_object, RP, END-POINTS}
@@ -11,6 +10,7 @@ use Rattle.pcep_metrics.specs.Along.{Passed}
 use Rattle.pcep_request_reader.specs.declared.fields.PcreqParts.{PcreqParts}
 use Rattle.pcep_request_reader.specs.declared.fields.ParsedPcreq.{ParsedPcreq}
 use Rattle.pcep_request_reader.specs.declared.fields.ParsedPcreq.TheVariants.{Refused, Parsed}
+use Rattle.model.specs.Verdict.{Pass}
 
 -- what the frame's checks leave: right objects, an RP and END-POINTS among them, the first of each class, and the number of METRICs
 pub record Framed (s firsts : List ℕ) (count : ℕ) : Type 0 where
@@ -38,5 +38,5 @@ pub record PartsAre (s : List ℕ) (p : PcreqParts) : Type 0 where
   pub wrong : p.wrong ≡ not (eqb (wrong_metric s) 0)
 
 abbrev pub ParsedPcreqIs : List ℕ → ParsedPcreq → Type 0
-ParsedPcreqIs s (Refused x) = message_verdict Pcreq s ≡ Refuse x
+ParsedPcreqIs s (Refused x) = message_verdict Pcreq s ≡ Err x
 ParsedPcreqIs s (Parsed p) = PartsAre s p

@@ -1,9 +1,7 @@
 -- What reading a PCReq answers and leaves in the lent buffers, over `Pcreq` of `pcep_model`.
-use Rattle.std.specs.Prelude.{ℕ, ◌≤◌, ◌≡◌, List, map, length}
-use Rattle.model.specs.declared.Verdict.{Verdict}
-use Rattle.model.specs.declared.Verdict.TheVariants.{Pass, Refuse}
+use Rattle.std.specs.Prelude.{ℕ, ◌≤◌, ◌≡◌, List, map, length, Err}
 use Rattle.model.specs.Lists.{over}
-use Rattle.model.specs.Verdict.{◌and_then◌}
+use Rattle.model.specs.Verdict.{Verdict, Pass, ◌and_then◌}
 use Rattle.model.specs.Calls.{room_verdict}
 use Rattle.model.specs.Request.{sizes_verdict, forms_verdict}
 use Rattle.pcep_model.specs.declared.PcreqFields.{PcreqFields}
@@ -30,7 +28,7 @@ pub record PassedPcreq (s : List ℕ) (room : ℕ) (f : PcreqFields) : Type 0 wh
   pub fits : length (metrics s) ≤ room
 
 abbrev pub CheckedPcreqIs : List ℕ → ℕ → PcreqAnswer → Type 0
-CheckedPcreqIs s room (Refused x) = pcreq_verdict s room ≡ Refuse x
+CheckedPcreqIs s room (Refused x) = pcreq_verdict s room ≡ Err x
 CheckedPcreqIs s room (Read f) = PassedPcreq s room f
 
 -- the answer, and each buffer with its field of the METRICs at its start

@@ -4,7 +4,7 @@ use mathlib.Core.List.{List}
 use Prim.Native.Nat.{ℕ, ◌≤◌}
 use native.Mathlib.Omega.{arith}
 use lib.ListN.{length}
-use Rattle.model.specs.declared.Verdict.TheVariants.{Pass}
+use Rattle.model.specs.Verdict.{Pass}
 use Rattle.model.specs.Profile.{Layout, hop_count, hop_start, profile_verdict}
 use Rattle.laws.proofs.Accepted.{accepted}
 use Rattle.laws.proofs.AreaLengths.{fits-short}

@@ -1,4 +1,5 @@
 -- One turn of the pass that notes entry nodes, over the values that the code holds: the record read, the count carried over and the count after it.
+use Rattle.std.specs.Prelude.{Err}
 use mathlib.Core.Path.{◌≡◌, refl, sym, ap, subst, ◌∙◌}
 use mathlib.Core.Bool.{Bool, true, false, cond, ◌&&◌, ◌||◌}
 use mathlib.Core.List.{List}
@@ -7,8 +8,8 @@ use native.Mathlib.Omega.{arith}
 use borrow.Author.Tests.{lt-ltb, le-ltb}
 use lib.ListN.{get_or, take}
 use lib.Dec.{eqb, ltb}
+use Rattle.model.specs.Verdict.{Pass}
 use Rattle.model.specs.declared.Hop.{Hop}
-use Rattle.model.specs.declared.Verdict.TheVariants.{Pass, Refuse}
 use Rattle.model.specs.Lists.{among}
 use Rattle.model.specs.Profile.{Layout, domain_count, hop_count, hop_at, hop_misordered, crowded, crowded_verdict}
 use Rattle.profile_records.specs.Layout.{HopsWithin}
@@ -54,7 +55,7 @@ module _ {L : Layout} {s : List ℕ} {d e i : ℕ} {noted : List ℕ} {count : �
         crowded-number L s i t.here noted kept held apart
         ∙ ap (ltb 16) (sym (number ∙ ap (λ (y : Hop). cond (among y.head.0 (take kept noted)) kept (kept + 1)) t.is))
 
-    pub seventeenth : 16 < after → (place : ℕ) → place ≡ domain_count s + i → crowded_verdict L s i ≡ Refuse (record { number = 19; place = place })
+    pub seventeenth : 16 < after → (place : ℕ) → place ≡ domain_count s + i → crowded_verdict L s i ≡ Err (record { number = 19; place = place })
     unfolding crowded_verdict
     seventeenth more place q = rw (tested, lt-ltb 16 after more, q) refl
 

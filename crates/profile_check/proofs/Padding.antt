@@ -14,7 +14,7 @@ use Rattle.laws.proofs.Different.{among-append}
 use Rattle.profile_check.specs.Noting.{Padded, Added}
 
 pub snoc_among : (y x : ℕ) (xs : List ℕ) → among y (xs ++ (x ∷ [])) ≡ among y xs || eqb y x
-unfolding among any
+unfolding among
 snoc_among y x xs = among-append y xs (x ∷ []) ∙ ap (λ (t : Bool). among y xs || t) (or-false (eqb y x))
 
 -- a number that is there already adds nothing
@@ -52,7 +52,7 @@ module _ (noted : List ℕ) (count : ℕ) (some : 0 < count) (p : Padded noted c
     stored_same y = ap (among y) stored ∙ snoc_among y node (take count noted)
 
     pub stored_padded : Padded (set noted count node) (count + 1)
-    unfolding among any
+    unfolding among
     stored_padded more y e =
         let rest : drop (count + 1) (set noted count node) ≡ drop (suc count) noted =
         ap (λ (k : ℕ). drop k (set noted count node)) (add-one count) ∙ drop-set-lt (suc count) noted count node (omega arith) in
@@ -62,7 +62,7 @@ module _ (noted : List ℕ) (count : ℕ) (some : 0 < count) (p : Padded noted c
 
 -- a list of one number, written 16 times
 pub filled_padded : (node : ℕ) → Padded (replicate 16 node) 1
-unfolding among any
+unfolding among
 filled_padded node some y e = go (eqb y node) refl e
   where
     go : (t : Bool) → eqb y node ≡ t
@@ -75,7 +75,7 @@ filled_padded node some y e = go (eqb y node) refl e
 
 pub note_first : (old : List ℕ) (count node : ℕ) → count ≡ 0
     → (1 ≡ cond (among node (take count old)) count (count + 1)) × Added old count node (replicate 16 node) 1
-unfolding among any
+unfolding among
 note_first old count node e = (
   rw e refl,
   record {

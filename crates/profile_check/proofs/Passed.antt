@@ -6,8 +6,7 @@ use Prim.Native.Nat.{ℕ, ◌+◌, ◌<◌, ◌≤◌}
 use borrow.Author.Tests.{leb-false, ltb-false, eqb-true, not-false}
 use lib.ListN.{length}
 use lib.Dec.{leb, ltb}
-use Rattle.model.specs.declared.Verdict.TheVariants.{Pass}
-use Rattle.model.specs.Verdict.{refuse_if, ◌and_then◌, in_turn}
+use Rattle.model.specs.Verdict.{Pass, refuse_if, ◌and_then◌, in_turn}
 use Rattle.model.specs.Profile.{Layout, domain_count, other_cost, bandwidth_bits, hop_at, hop_malformed, hop_misordered, hop_verdict, hop_start, hop_count, header_wrong, counts_wrong, length_wrong, header_verdict}
 use Rattle.laws.proofs.Tests.{or_neither}
 use Rattle.profile_record_checks.specs.Misplaced.{hop_misplaced}

@@ -11,6 +11,6 @@ use Rattle.model.specs.Lists.{any, among}
 use Rattle.laws.proofs.Different.{eqb_sym, among-append}
 
 pub found_next : (xs : List ℕ) (x j : ℕ) → j < length xs → among x (take j xs) || eqb (get_or xs j 0) x ≡ among x (take (j + 1) xs)
-unfolding among any
+unfolding among
 found_next xs x j h =
     rw (add-one j, take-suc xs j 0 h, among-append x (take j xs) (get_or xs j 0 ∷ []), eqb_sym (get_or xs j 0) x, or-false (eqb x (get_or xs j 0))) refl

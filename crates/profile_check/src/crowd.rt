@@ -1,9 +1,8 @@
 // Check 19: at most 16 entry nodes for each pair of different domains. The records of a pair stand together, so one pass notes the different entry nodes
 // of the current pair and no more.
 ghost use Rattle.std.specs.Prelude.{◌≡◌, cond, ◌&&◌, ◌+◌, ◌≤◌, length, take, eqb};
-ghost use Rattle.model.specs.declared.Verdict.TheVariants.{Pass};
 ghost use Rattle.model.specs.Lists.{among};
-ghost use Rattle.model.specs.Verdict.{in_turn};
+ghost use Rattle.model.specs.Verdict.{Pass, in_turn};
 ghost use Rattle.model.specs.Profile.{hop_count, hop_verdict, crowded_verdict};
 ghost use Rattle.profile_records.specs.Layout.{layout_of, HopsWithin};
 ghost use Rattle.profile_check.specs.Noting.{Padded, Added};

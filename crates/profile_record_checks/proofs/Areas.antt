@@ -13,7 +13,7 @@ use Rattle.model.specs.Bytes.{all_zero}
 use Rattle.model.specs.Profile.{area_length_fits}
 
 zero_step : (a : List ℕ) (j : ℕ) → all_zero (drop j a) ≡ eqb 0 (get_or a j 0) && all_zero (drop (suc j) a)
-unfolding all_zero all
+unfolding all_zero
 zero_step [] zero = refl
 zero_step [] (suc j) = refl
 zero_step (x ∷ a) zero = refl
@@ -26,7 +26,7 @@ pub other_byte : (a : List ℕ) (j : ℕ) → (get_or a j 0 ≡ 0 → ⊥) → a
 other_byte a j h = rw (zero_step a j, ne_eqb 0 (get_or a j 0) (omega arith)) refl
 
 pub no_byte : (a : List ℕ) (j : ℕ) → length a ≤ j → all_zero (drop j a) ≡ true
-unfolding all_zero all
+unfolding all_zero
 no_byte a j h = rw (drop_of_length-le a h) refl
 
 -- ---- the lengths of each kind
@@ -44,7 +44,7 @@ exactly a n = go (eqb n a) refl
 
 -- the rules of the three kinds in turn, where a kind with one length has it exactly
 pub fits : (k n : ℕ) → (eqb k 0 && eqb n 0) || (eqb k 1 && eqb n 4) || (eqb k 2 && leb 1 n && leb n 13) ≡ area_length_fits k n
-unfolding area_length_fits any
+unfolding area_length_fits
 fits k n =
     or_assoc (eqb k 0 && eqb n 0) (eqb k 1 && eqb n 4) (eqb k 2 && leb 1 n && leb n 13)
     ∙ ap₂ ◌||◌ (only 0 0) (ap₂ ◌||◌ (only 1 4) (sym (or-false (eqb k 2 && leb 1 n && leb n 13))))

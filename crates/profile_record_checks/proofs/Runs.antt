@@ -10,11 +10,10 @@ use mathlib.Core.List.{List}
 use lib.ListN.{length}
 use lib.Dec.{eqb, leb, ltb}
 use borrow.Author.Tests.{eqb-true, leb-true, ltb-true, not-true, eq-eqb, lt-ltb, le-ltb, lt-leb}
-use Rattle.model.specs.declared.Verdict.TheVariants.{Pass}
 use Rattle.model.specs.Lists.{below}
 use Rattle.model.specs.Bytes.{number}
 use Rattle.model.specs.Reserved.{address_ranges, misplaced}
-use Rattle.model.specs.Verdict.{refuse_if, ◌and_then◌}
+use Rattle.model.specs.Verdict.{Pass, refuse_if, ◌and_then◌}
 use Rattle.model.specs.Profile.{Layout, class_of, domain_count, hop_start, hop_at, other_cost, hop_malformed, hop_misordered, hop_verdict}
 use Rattle.laws.proofs.BigEndian.{Bytes}
 use Rattle.laws.proofs.HopOrder.{hop_misordered-key}

@@ -1,12 +1,11 @@
 -- A loop that checks records in turn: those from record i on decide, since those before it passed. How it starts, goes on and ends.
+use Rattle.std.specs.Prelude.{Err}
 use Prim.Native.Nat.{ℕ, ◌+◌, ◌-◌, ◌≤◌, ◌<◌}
 use native.Mathlib.Nat.{sub-zero}
 use native.Mathlib.Omega.{arith}
 use mathlib.Core.Path.{◌≡◌, sym, ap, subst, ◌∙◌}
 use Rattle.model.specs.declared.Refusal.{Refusal}
-use Rattle.model.specs.declared.Verdict.{Verdict}
-use Rattle.model.specs.declared.Verdict.TheVariants.{Pass, Refuse}
-use Rattle.model.specs.Verdict.{in_turn}
+use Rattle.model.specs.Verdict.{Verdict, Pass, in_turn}
 use Rattle.laws.proofs.Turns.{turn_passed, turn_refused, in_turn_none, in_turn_skip}
 
 pub record Turned (check : ℕ → Verdict) (n i : ℕ) : Type 0 where
@@ -32,8 +31,8 @@ module _ {check : ℕ → Verdict} {n i : ℕ} (t : Turned check n i) where
 
   -- the verdict on the m records that the file is said to have
   module _ {m : ℕ} (all : n ≡ m) where
-    pub refused : {r : Refusal} → i < n → check i ≡ Refuse r → Refuse r ≡ in_turn check 0 m
-    refused {r} h e = subst (λ (k : ℕ). Refuse r ≡ in_turn check 0 k) all (sym (t.rest ∙ turn_refused check i n r h e))
+    pub refused : {r : Refusal} → i < n → check i ≡ Err r → Err r ≡ in_turn check 0 m
+    refused {r} h e = subst (λ (k : ℕ). Err r ≡ in_turn check 0 k) all (sym (t.rest ∙ turn_refused check i n r h e))
 
     pub ended : n ≤ i → Pass ≡ in_turn check 0 m
     ended h = subst (λ (k : ℕ). Pass ≡ in_turn check 0 k) all (sym (t.rest ∙ in_turn_none check i n h))

@@ -1,6 +1,6 @@
 -- What is said of a run, the hop records that leave one node of a pair of domains: a record that goes on with one, and how far the records of one surely pass.
 use Rattle.std.specs.Prelude.{ℕ, ◌+◌, ◌<◌, ◌≤◌, ◌≡◌, false, List}
-use Rattle.model.specs.declared.Verdict.TheVariants.{Pass}
+use Rattle.model.specs.Verdict.{Pass}
 use Rattle.model.specs.Bytes.{number}
 use Rattle.model.specs.Reserved.{address_ranges, misplaced}
 use Rattle.model.specs.Profile.{Layout, hop_verdict}

@@ -1,7 +1,7 @@
 // Hop records that leave one node of a pair of domains stand together, a run. One that has the first eight bytes of a record that passed has passed the tests of its
 // domains and of its tail with it, and is in order where its head is above: so most records want only head, costs and bandwidth looked at.
 ghost use Rattle.std.specs.Prelude.{◌≡◌, true, ◌+◌, ◌<◌, ◌≤◌, length};
-ghost use Rattle.model.specs.declared.Verdict.TheVariants.{Pass};
+ghost use Rattle.model.specs.Verdict.{Pass};
 ghost use Rattle.model.specs.Profile.{hop_verdict};
 ghost use Rattle.profile_records.specs.Layout.{layout_of, SoundLayout, HopsWithin};
 ghost use Rattle.profile_record_checks.specs.Run.{GoesOn, RunTo};

@@ -1,7 +1,7 @@
 -- The code's layout as the definitions' one, what a function that reads a hop record asks for, and what one read from an accepted profile has.
 use Rattle.std.specs.Prelude.{ℕ, ◌+◌, ◌≤◌, ◌≡◌, true, List, length}
+use Rattle.model.specs.Verdict.{Pass}
 use Rattle.model.specs.declared.Hop.{Hop}
-use Rattle.model.specs.declared.Verdict.TheVariants.{Pass}
 use Rattle.model.specs.Floats.{in_range}
 use Rattle.model.specs.Profile as Profile
 use Rattle.profile_records.specs.declared.layout.Layout.{Layout}

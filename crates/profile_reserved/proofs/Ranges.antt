@@ -33,7 +33,7 @@ scanned i to x = in_ranges (slice i to (map model table)) x
 
 module _ (i to x : ℕ) (h : i < to) (fits : to ≤ 5) (d : Range) where
   step : scanned i to x ≡ (leb (get_or table i d).first x && leb x (get_or table i d).last) || scanned (i + 1) to x
-  unfolding in_ranges any
+  unfolding in_ranges
   step = rw (slice-cons i to (map model table) (model d) h fits, get_or-map model table i d, add-one i) refl
 
   pub hit : (get_or table i d).first ≤ x → x ≤ (get_or table i d).last → scanned i to x ≡ true
@@ -46,7 +46,7 @@ module _ (i to x : ℕ) (h : i < to) (fits : to ≤ 5) (d : Range) where
   above-range low high = rw (step, le-leb (get_or table i d).first x low, lt-leb x (get_or table i d).last high) refl
 
 pub none_left : (i to x : ℕ) → i ≤ to → to ≤ i → scanned i to x ≡ false
-unfolding in_ranges any
+unfolding in_ranges
 none_left i to x low high =
     let end : i ≡ to = omega arith in
     rw (end, slice_empty to (map model table)) refl

@@ -1,7 +1,6 @@
 -- A refusal by its number and its place.
-use Rattle.std.specs.Prelude.{ℕ}
-use Rattle.model.specs.declared.Verdict.{Verdict}
-use Rattle.model.specs.declared.Verdict.TheVariants.{Refuse}
+use Rattle.std.specs.Prelude.{ℕ, Err}
+use Rattle.model.specs.Verdict.{Verdict}
 
 abbrev pub refusal : ℕ → ℕ → Verdict
-refusal n at = Refuse (record { number = n; place = at })
+refusal n at = Err (record { number = n; place = at })

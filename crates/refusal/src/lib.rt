@@ -1,47 +1,33 @@
-// Refusals: one by its number and place, and the first of three that are tested for at one place.
+// Refusals: by a reason and a place, where a test holds, and at an offset of a list.
 #![tactic(auto)]
 
 ghost use Rattle.std.specs.Prelude.{◌≡◌, true, ◌≤◌};
-ghost use Rattle.model.specs.Verdict.{refuse_if, ◌and_then◌};
+ghost use Rattle.model.specs.Verdict.{refuse_if, number_of};
 ghost use Rattle.refusal.specs.Refused.{refusal};
 
-use model::{Refusal, Verdict};
+use model::{Reason, Refusal, Verdict};
 
-// Refused by this number at this place.
-pub fn refuse(number: u32, place: u32) -> Verdict
-    ensures { result ≡ refuse_if true number place }
+// Refused for this reason at this place.
+pub fn refuse(reason: Reason, place: u32) -> Verdict
+    ensures { result ≡ refuse_if true (number_of reason) place }
 {
-    Verdict::Refuse(Refusal { number, place })
+    Err(Refusal::new(reason, place))
 }
 
 // Refused at an offset of a list.
-pub fn refuse_at(number: u32, at: usize) -> Verdict
+pub fn refuse_at(reason: Reason, at: usize) -> Verdict
     requires { at ≤ 1024 }
-    ensures { result ≡ refusal number at }
+    ensures { result ≡ refusal (number_of reason) at }
 {
-    refuse(number, at as u32)
+    refuse(reason, at as u32)
 }
 
-// Three tests in turn, each with the number that it refuses by.
-pub fn first_wrong(
-    first: bool,
-    second: bool,
-    third: bool,
-    one: u32,
-    two: u32,
-    three: u32,
-    place: u32,
-) -> Verdict
-    ensures { result ≡ refuse_if first one place and_then refuse_if second two place and_then refuse_if third three place }
+// Refused where a test says that something is wrong.
+pub fn refuse_if(wrong: bool, reason: Reason, place: u32) -> Verdict
+    ensures { result ≡ refuse_if wrong (number_of reason) place }
 {
-    if first {
-        return refuse(one, place);
+    if wrong {
+        return refuse(reason, place);
     }
-    if second {
-        return refuse(two, place);
-    }
-    if third {
-        return refuse(three, place);
-    }
-    Verdict::Pass
+    Ok(())
 }

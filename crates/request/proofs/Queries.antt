@@ -1,14 +1,14 @@
 -- What a request's sequence is by its checks, and that a query with that sequence is ready for a search.
+use Rattle.std.specs.Prelude.{Err}
 use mathlib.Core.Path.{◌≡◌, refl, sym, ap, subst}
 use mathlib.Core.List.{List}
 use Prim.Native.Nat.{ℕ, ◌<◌}
 use native.Mathlib.Omega.{arith}
+use Rattle.model.specs.Verdict.{Verdict, Pass}
 use Rattle.model.specs.declared.Limits.{Limits}
 use Rattle.model.specs.declared.NodeAddress.{NodeAddress}
 use Rattle.model.specs.declared.Refusal.{Refusal}
 use Rattle.model.specs.declared.Round.TheVariants.{First}
-use Rattle.model.specs.declared.Verdict.{Verdict}
-use Rattle.model.specs.declared.Verdict.TheVariants.{Pass, Refuse}
 use Rattle.model.specs.Profile.{layout_in, domain_count}
 use Rattle.model.specs.Sequence.{refused, good, meaning}
 use Rattle.model.specs.Request.{Request, reading_input, provided, request_verdict, sequence_of}
@@ -28,7 +28,7 @@ use Rattle.request.specs.Query.{query_domain, query_stop, query_stops, Ready}
 use Rattle.request.specs.CheckedRequest.{request_for, refused_by, RequestIs}
 
 module _ (req : Request) where
-  pub sequence-refused : (r : Refusal) → request_verdict req ≡ Refuse r → sequence_of req ≡ refused r
+  pub sequence-refused : (r : Refusal) → request_verdict req ≡ Err r → sequence_of req ≡ refused r
   unfolding sequence_of
   sequence-refused r e = ap (λ (v : Verdict). provided v (meaning (reading_input req.profile) req.ingress req.include)) e
 

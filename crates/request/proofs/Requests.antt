@@ -1,13 +1,13 @@
 -- What `RequestIs` gives a caller: where the checks pass, the request is accepted with the query's sequence, and the search it asks for is
 -- the query's in every round, so in the one that applies; where they refuse, so does the request. And a query is ready in every round.
+use Rattle.std.specs.Prelude.{Err}
 use mathlib.Core.Path.{◌≡◌, sym, ap, ◌∙◌}
 use mathlib.Core.List.{List, map}
 use Prim.Native.Nat.{ℕ}
+use Rattle.model.specs.Verdict.{Verdict, Pass}
 use Rattle.model.specs.declared.Refusal.{Refusal}
 use Rattle.model.specs.declared.Round.{Round}
 use Rattle.model.specs.declared.Round.TheVariants.{First}
-use Rattle.model.specs.declared.Verdict.{Verdict}
-use Rattle.model.specs.declared.Verdict.TheVariants.{Pass, Refuse}
 use Rattle.model.specs.Profile.{Layout, domains, hops, layout_in}
 use Rattle.model.specs.Exclusion.{in_force}
 use Rattle.model.specs.Subobject.{subobjects, carried}
@@ -48,7 +48,7 @@ module _ (P : List ℕ) (asked : Asked) (I E : List ℕ) (r : CheckedRequest) (i
   abbrev req : Request
   req = request_for P asked I E
 
-  pub refused-request : (why : Refusal) → r.verdict ≡ Refuse why → sequence_of req ≡ refused why
+  pub refused-request : (why : Refusal) → r.verdict ≡ Err why → sequence_of req ≡ refused why
   refused-request why e = sym is.means ∙ ap (λ (v : Verdict). provided v (good (query_stops I r.query))) e
 
   pub accepted-request : r.verdict ≡ Pass → Accepted req (query_stops I r.query)

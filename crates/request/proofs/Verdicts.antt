@@ -1,4 +1,5 @@
 -- The checks of a request in parts, one after the other: what each refusal makes of the whole, and what is left where it passes. By putting each verdict in its place.
+use Rattle.std.specs.Prelude.{Err}
 use mathlib.Core.Path.{◌≡◌, refl}
 use mathlib.Core.Bool.{true, false, not, ◌&&◌}
 use mathlib.Core.List.{List}
@@ -7,9 +8,7 @@ use lib.ListN.{length}
 use lib.Dec.{ltb}
 use Rattle.model.specs.declared.Limits.{Limits}
 use Rattle.model.specs.declared.Refusal.{Refusal}
-use Rattle.model.specs.declared.Verdict.{Verdict}
-use Rattle.model.specs.declared.Verdict.TheVariants.{Pass, Refuse}
-use Rattle.model.specs.Verdict.{refuse_if, ◌and_then◌}
+use Rattle.model.specs.Verdict.{Verdict, Pass, refuse_if, ◌and_then◌}
 use Rattle.model.specs.Floats.{in_range}
 use Rattle.model.specs.Request.{limits_verdict, sizes_verdict, forms_verdict, request_verdict_with}
 use Rattle.request.specs.CheckedRequest.{request_of, start_verdict}
@@ -46,19 +45,19 @@ module _ (metrics ero : Verdict) (P : List ℕ) (i s d : ℕ) (I E : List ℕ) (
   abbrev whole : Verdict
   whole = request_verdict_with metrics ero (request_of P i s d I E l)
 
-  pub start-refused : (r : Refusal) → start_verdict P i ≡ Refuse r → whole ≡ Refuse r
+  pub start-refused : (r : Refusal) → start_verdict P i ≡ Err r → whole ≡ Err r
   start-refused r a = rw a refl
 
   module _ (a : start_verdict P i ≡ Pass) where
-    pub limits-refused : (r : Refusal) → limits_verdict l ≡ Refuse r → whole ≡ Refuse r
+    pub limits-refused : (r : Refusal) → limits_verdict l ≡ Err r → whole ≡ Err r
     limits-refused r b = rw (a, b) refl
 
     module _ (b : limits_verdict l ≡ Pass) where
-      pub metrics-refused : (r : Refusal) → metrics ≡ Refuse r → whole ≡ Refuse r
+      pub metrics-refused : (r : Refusal) → metrics ≡ Err r → whole ≡ Err r
       metrics-refused r c = rw (a, b, c) refl
 
       module _ (c : metrics ≡ Pass) where
-        pub sizes-refused : (r : Refusal) → sizes_verdict I E ≡ Refuse r → whole ≡ Refuse r
+        pub sizes-refused : (r : Refusal) → sizes_verdict I E ≡ Err r → whole ≡ Err r
         sizes-refused r e = rw (a, b, c, e) refl
 
         pub forms_left : sizes_verdict I E ≡ Pass → whole ≡ forms_verdict I E and_then ero

@@ -1,11 +1,9 @@
 -- What the checks of a request answer, over `Request` of `model`.
-use Rattle.std.specs.Prelude.{◌≡◌, List, ℕ, replicate}
+use Rattle.std.specs.Prelude.{◌≡◌, List, ℕ, replicate, Err}
 use Rattle.model.specs.declared.Limits.{Limits}
 use Rattle.model.specs.declared.Refusal.{Refusal}
 use Rattle.model.specs.declared.Round.TheVariants.{First}
-use Rattle.model.specs.declared.Verdict.{Verdict}
-use Rattle.model.specs.declared.Verdict.TheVariants.{Pass, Refuse}
-use Rattle.model.specs.Verdict.{◌and_then◌}
+use Rattle.model.specs.Verdict.{Verdict, Pass, ◌and_then◌}
 use Rattle.model.specs.Profile.{layout_in, verdict_on}
 use Rattle.model.specs.Sequence.{good}
 use Rattle.model.specs.Request.{Request, ingress_verdict, provided, sequence_of}
@@ -39,7 +37,7 @@ start_verdict profile ingress = verdict_on profile and_then ingress_verdict prof
 abbrev pub refused_by : Refusal → Asked → CheckedRequest
 refused_by r asked =
     record {
-      verdict = Refuse r;
+      verdict = Err r;
       query =
           record {
             count = 0;
@@ -62,4 +60,4 @@ pub record RequestIs (profile : List ℕ) (asked : Asked) (include exclude : Lis
   pub limits-kept : r.query.limits ≡ asked.limits
   pub in_first : r.query.round ≡ First
   pub ready : r.verdict ≡ Pass → Ready (layout_in profile) profile (lists_of include exclude) r.query
-  pub none : (x : Refusal) → r.verdict ≡ Refuse x → r ≡ refused_by x asked
+  pub none : (x : Refusal) → r.verdict ≡ Err x → r ≡ refused_by x asked

@@ -1,9 +1,9 @@
 -- What the code's query stands for, over the definitions of `model`.
 use Rattle.std.specs.Prelude.{◌≡◌, true, List, map, ℕ, ◌-◌, ◌≤◌, ◌<◌, length, get_or}
+use Rattle.model.specs.Verdict.{Pass}
 use Rattle.model.specs.declared.ListKind.TheVariants.{Include, Exclude}
 use Rattle.model.specs.declared.Round.{Round}
 use Rattle.model.specs.declared.Round.TheVariants.{First}
-use Rattle.model.specs.declared.Verdict.TheVariants.{Pass}
 use Rattle.model.specs.Lists.{all_different}
 use Rattle.model.specs.Profile.{Layout, domain_count, domains, hops, profile_verdict}
 use Rattle.model.specs.Subobject.{form_verdict, subobjects, carried}

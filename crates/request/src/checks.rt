@@ -1,6 +1,6 @@
 // The checks before the meaning of the include list, in document 01's order: profile, 20, 21, 22, the form of each list.
 ghost use Rattle.std.specs.Prelude.{◌≡◌, ℕ};
-ghost use Rattle.model.specs.declared.Verdict.TheVariants.{Pass};
+ghost use Rattle.model.specs.Verdict.{Pass};
 ghost use Rattle.model.specs.Request.{sizes_verdict, forms_verdict, request_verdict};
 ghost use Rattle.request.specs.CheckedRequest.{request_of, start_verdict};
 

@@ -2,7 +2,7 @@
 #![tactic(auto)]
 
 ghost use Rattle.std.specs.Prelude.{◌≡◌};
-ghost use Rattle.model.specs.declared.Verdict.TheVariants.{Pass};
+ghost use Rattle.model.specs.Verdict.{Pass};
 ghost use Rattle.model.specs.Request.{request_verdict};
 ghost use Rattle.request.specs.CheckedRequest.{request_for, refused_by, RequestIs};
 ghost use Rattle.request.specs.Query.{in_round};

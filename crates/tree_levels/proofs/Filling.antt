@@ -9,10 +9,10 @@ use mathlib.Core.Logic.{⊎_elim}
 use mathlib.Core.List.{List, [], ◌∷◌, ◌++◌, map}
 use lib.ListN.{length, get_or, take, set, length-append, length-set}
 use lib.Seq.{take-suc-set, get_or-set_same, get_or-set_other}
+use Rattle.model.specs.Verdict.{Pass}
 use Rattle.model.specs.declared.Hop.{Hop}
 use Rattle.model.specs.declared.DomainIndex.{DomainIndex}
 use Rattle.model.specs.Lists.{count_from, each, different}
-use Rattle.model.specs.declared.Verdict.TheVariants.{Pass}
 use Rattle.model.specs.Profile.{Layout, hops, entry_nodes, profile_verdict}
 use Rattle.model.specs.Request.{Search}
 use Rattle.model.specs.Path.{leg_at}

@@ -3,8 +3,8 @@
 #![tactic(auto)]
 
 ghost use Rattle.std.specs.Prelude.{◌≡◌, true, not, ◌&&◌, ◌≤◌, length};
+ghost use Rattle.model.specs.Verdict.{Pass};
 ghost use Rattle.model.specs.declared.ListKind.TheVariants.{Exclude};
-ghost use Rattle.model.specs.declared.Verdict.TheVariants.{Pass};
 ghost use Rattle.model.specs.Exclusion.{some_desired};
 ghost use Rattle.model.specs.Floats.{in_range};
 ghost use Rattle.model.specs.Subobject.{form_verdict};

@@ -4,8 +4,8 @@
 
 ghost use Rattle.std.specs.Prelude.{◌≡◌, true, ◌≤◌, ◌-◌};
 ghost use Rattle.std.proofs.Math.Seq.{slice, paste};
+ghost use Rattle.model.specs.Verdict.{Pass};
 ghost use Rattle.model.specs.declared.ListKind.TheVariants.{Exclude};
-ghost use Rattle.model.specs.declared.Verdict.TheVariants.{Pass};
 ghost use Rattle.model.specs.Floats.{in_range};
 ghost use Rattle.model.specs.Path.{keeps_pin};
 ghost use Rattle.model.specs.Subobject.{form_verdict};

@@ -2,8 +2,8 @@
 #![tactic(auto)]
 
 ghost use Rattle.std.specs.Prelude.{◌≡◌, not, List, ℕ, suc, ◌+◌, ◌<◌, ◌≤◌, length, get_or};
+ghost use Rattle.model.specs.Verdict.{Pass};
 ghost use Rattle.model.specs.declared.ListKind.TheVariants.{Exclude};
-ghost use Rattle.model.specs.declared.Verdict.TheVariants.{Pass};
 ghost use Rattle.model.specs.Exclusion.{in_force, excluded_node};
 ghost use Rattle.model.specs.Subobject.{form_verdict, subobjects};
 ghost use Rattle.laws.specs.Lists.{lists_of};

@@ -2,7 +2,7 @@
 use mathlib.Core.Path.{◌≡◌, sym, ap, ◌∙◌}
 use native.Mathlib.Omega.{arith}
 use lib.ListN.{length}
-use Rattle.model.specs.declared.Verdict.TheVariants.{Pass}
+use Rattle.model.specs.Verdict.{Pass}
 use Rattle.model.specs.Subobject.{subobject_verdict}
 use Rattle.laws.specs.Left.{form_left}
 use Rattle.laws.proofs.Walk.{right_subobject, form-whole, form-end, form-refused, form_next}

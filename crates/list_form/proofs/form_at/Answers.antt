@@ -1,19 +1,20 @@
 -- `list_form::form_at` meets its contract: the subobject itself, and then in an include list what it carries.
+use Rattle.std.specs.Prelude.{Err}
 use mathlib.Core.Path.{◌≡◌, sym, ap, ◌∙◌}
 use mathlib.Core.List.{List}
 use Prim.Native.Nat.{ℕ}
 use lib.Dec.{eqb}
 use lib.ListN.{length}
+use Rattle.model.specs.Verdict.{Pass}
 use Rattle.model.specs.declared.Refusal.{Refusal}
 use Rattle.model.specs.declared.ListKind.{ListKind}
 use Rattle.model.specs.declared.ListKind.TheVariants.{Include, Exclude}
-use Rattle.model.specs.declared.Verdict.TheVariants.{Pass, Refuse}
 use Rattle.model.specs.Subobject.{type_at, plain_verdict, carried_if, subobject_verdict}
 use Rattle.laws.proofs.Turns.{passed_first, refused_first}
 use Rattle.list_form.proofs.form_at.Goals as goal
 
 module _ (s : List ℕ) (end at : ℕ) where
-  plain-refused : (k : ListKind) (r : Refusal) → plain_verdict k s end at ≡ Refuse r → subobject_verdict k s end at ≡ Refuse r
+  plain-refused : (k : ListKind) (r : Refusal) → plain_verdict k s end at ≡ Err r → subobject_verdict k s end at ≡ Err r
   unfolding subobject_verdict
   plain-refused Include r e = refused_first (plain_verdict Include s end at) (carried_if (eqb (type_at s at) 33) s at) r e
   plain-refused Exclude r e = e

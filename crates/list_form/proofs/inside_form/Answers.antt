@@ -1,7 +1,7 @@
 -- `list_form::inside_form` meets its contract. The loop's invariant: the form of what is left up to the end is that of all of it. The measure is what is left.
 use mathlib.Core.Path.{◌≡◌, refl, sym, ap, ◌∙◌}
 use native.Mathlib.Omega.{arith}
-use Rattle.model.specs.declared.Verdict.TheVariants.{Pass}
+use Rattle.model.specs.Verdict.{Pass}
 use Rattle.model.specs.declared.ListKind.TheVariants.{Exclude}
 use Rattle.model.specs.Subobject.{form_from, subobject_verdict}
 use Rattle.laws.proofs.Walk.{right_subobject, form-end, form-refused, form_next}

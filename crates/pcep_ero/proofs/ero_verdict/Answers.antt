@@ -1,10 +1,10 @@
 -- `pcep_ero::ero_verdict` meets its contract. The loop's invariant: what is left from the offset on is refused as the whole body is. The measure is what is left.
 use mathlib.Core.Path.{◌≡◌, sym, ◌∙◌}
-use Rattle.model.specs.declared.Verdict.TheVariants.{Pass}
 use Rattle.pcep_model.specs.Pcrep.{step_verdict}
 use Rattle.pcep_ero.proofs.Addresses.{eight, verdict-end, verdict-refused, verdict_next}
 use Rattle.pcep_ero.proofs.ero_verdict.Goals as goal
 use Rattle.pcep_ero.proofs.ero_verdict.Goals.{In_default}
+use Rattle.model.specs.Verdict.{Pass}
 
 -- the subobject at hand passes
 right : (c : In_default) → step_verdict c.args.body.now c.loop-at.at ≡ Pass

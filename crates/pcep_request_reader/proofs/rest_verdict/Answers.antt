@@ -2,8 +2,7 @@
 use mathlib.Core.Path.{◌≡◌, sym, ◌∙◌}
 use mathlib.Core.List.{List}
 use Prim.Native.Nat.{ℕ}
-use Rattle.model.specs.declared.Verdict.{Verdict}
-use Rattle.model.specs.declared.Verdict.TheVariants.{Pass}
+use Rattle.model.specs.Verdict.{Verdict, Pass}
 use Rattle.model.specs.Request.{sizes_verdict, forms_verdict}
 use Rattle.pcep_model.specs.Pcreq.{floats_verdict, list_in, include_extent, exclude_extent}
 use Rattle.pcep_request_reader.proofs.Rest.{lists_are, floats_told, by_floats, by_sizes, by_forms, by_room}

@@ -1,6 +1,6 @@
 -- `request::read_query` meets its contract: a refusal of the include list, or its meaning as a query.
 use mathlib.Core.Path.{refl, sym, ap, ◌∙◌}
-use Rattle.model.specs.declared.Verdict.{Verdict}
+use Rattle.model.specs.Verdict.{Verdict}
 use Rattle.model.specs.Profile.{layout_in}
 use Rattle.model.specs.Sequence.{good}
 use Rattle.model.specs.Request.{Request, provided}

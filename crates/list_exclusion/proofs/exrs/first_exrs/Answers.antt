@@ -4,8 +4,8 @@ use mathlib.Core.Path.{◌≡◌, refl, sym, ap, subst, ◌∙◌}
 use mathlib.Core.List.{List, ◌++◌}
 use native.Mathlib.Omega.{arith}
 use borrow.Author.Tests.{ne_eqb}
+use Rattle.model.specs.Verdict.{Pass}
 use Rattle.model.specs.declared.ListKind.TheVariants.{Include}
-use Rattle.model.specs.declared.Verdict.TheVariants.{Pass}
 use Rattle.model.specs.Subobject.{Subobject, type_at, subobject_verdict, after_subobject, inside_of}
 use Rattle.laws.specs.Exrs.{Stretch, carried_in}
 use Rattle.laws.proofs.Walk.{right_here, right_next, right_subobject}

@@ -1,6 +1,6 @@
 -- `list_include::state::wait_exrs` meets its contract: what waits stays as it is, with the EXRS behind it.
 use mathlib.Core.Path.{refl, sym, ap, subst, ◌∙◌}
-use Rattle.model.specs.declared.Verdict.TheVariants.{Pass}
+use Rattle.model.specs.Verdict.{Pass}
 use Rattle.model.specs.Sequence as M
 use Rattle.model.specs.Calls.{pin_mark, pin_node}
 use Rattle.list_include.specs.declared.state.State.{State}

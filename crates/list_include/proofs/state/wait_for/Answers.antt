@@ -1,6 +1,6 @@
 -- `list_include::state::wait_for` meets its contract: whether an entry constraint waits says which case of `wait` it is.
 use mathlib.Core.Path.{sym, ap, subst}
-use Rattle.model.specs.declared.Verdict.TheVariants.{Pass}
+use Rattle.model.specs.Verdict.{Pass}
 use Rattle.model.specs.Sequence as M
 use Rattle.model.specs.Calls.{pin_mark, pin_node}
 use Rattle.list_include.specs.declared.state.State.{State}

@@ -1,6 +1,6 @@
 -- `list_reader::read::read_include` meets its contract: a refusal of the checks or of the meaning, or what becomes of the state's sequence.
 use mathlib.Core.Path.{◌≡◌, sym, ap, ◌∙◌}
-use Rattle.model.specs.declared.Verdict.{Verdict}
+use Rattle.model.specs.Verdict.{Verdict}
 use Rattle.model.specs.Profile.{layout_in}
 use Rattle.model.specs.Request.{provided}
 use Rattle.model.specs.Sequence as M

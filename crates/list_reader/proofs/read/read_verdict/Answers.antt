@@ -2,7 +2,7 @@
 use mathlib.Core.Path.{◌≡◌, sym, subst, ◌∙◌}
 use Prim.Native.Nat.{ℕ, ◌≤◌, ◌<◌}
 use borrow.Author.Tests.{lt-ltb, le-ltb, le-leb, lt-leb}
-use Rattle.model.specs.declared.Verdict.TheVariants.{Pass}
+use Rattle.model.specs.Verdict.{Pass}
 use Rattle.model.specs.Profile.{layout_in, verdict_on}
 use Rattle.profile_check.proofs.Access.{file-length}
 use Rattle.list_reader.proofs.ReadChecks.{profile-refused, ingress-refused, size-refused, form_left_lem}

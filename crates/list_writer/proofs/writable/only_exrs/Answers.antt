@@ -3,7 +3,7 @@
 use mathlib.Core.Path.{◌≡◌, refl, sym, ap, ◌∙◌}
 use native.Mathlib.Omega.{arith}
 use lib.ListN.{length}
-use Rattle.model.specs.declared.Verdict.TheVariants.{Pass}
+use Rattle.model.specs.Verdict.{Pass}
 use Rattle.model.specs.declared.ListKind.TheVariants.{Include}
 use Rattle.model.specs.Subobject.{form_verdict, form_from, subobjects, subobject_verdict}
 use Rattle.laws.proofs.Walk.{right_subobject, right_here, right_next}

@@ -1,9 +1,8 @@
 -- `list_writer::writable::whole_exrs` meets its contract: the form's verdict is the first test, and where it passes the types are the second.
 use mathlib.Core.Path.{sym, ap, ◌∙◌}
 use mathlib.Core.Bool.{◌&&◌}
-use Rattle.model.specs.declared.Verdict.{Verdict}
 use Rattle.model.specs.Lists.{all}
-use Rattle.model.specs.Verdict.{passes}
+use Rattle.model.specs.Verdict.{Verdict, passes}
 use Rattle.model.specs.Subobject.{Subobject, subobjects}
 use Rattle.model.specs.WrittenList.{is_exrs, whole_exrs}
 use Rattle.list_writer.proofs.writable.whole_exrs.Goals as goal

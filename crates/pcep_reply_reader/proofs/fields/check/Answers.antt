@@ -4,7 +4,6 @@ use mathlib.Core.Path.{◌≡◌, sym, ap, ap₂, subst, ◌∙◌}
 use mathlib.Core.List.{List}
 use native.Mathlib.Omega.{arith}
 use lib.ListN.{length}
-use Rattle.model.specs.declared.Verdict.TheVariants.{Pass}
 use Rattle.pcep_model.specs.Objects.{ERO, NO-PATH}
 use Rattle.pcep_model.specs.Pcreq.{list_in, extent_of}
 use Rattle.pcep_model.specs.Pcrep.{route_in, ero_verdict, addresses_in, pcrep_verdict}
@@ -15,6 +14,7 @@ use Rattle.pcep_reply_reader.proofs.Route.{route, route_stands, body_is}
 use Rattle.pcep_reply_reader.proofs.Checks.{list-short, rest_form, by_frame, by_metric, by_rest, accepted, right_frame, passed, framed}
 use Rattle.pcep_reply_reader.proofs.fields.check.Goals as goal
 use Rattle.pcep_reply_reader.proofs.fields.check.Goals.{After-list_in-body, After-rest_verdict-rest, After-route_at, In_default-rest}
+use Rattle.model.specs.Verdict.{Pass}
 
 -- the place gone by is the definition's
 route-is : (c : After-route_at) → c.route_at.result ≡ route c.args.message.now

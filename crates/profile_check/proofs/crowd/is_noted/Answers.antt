@@ -8,7 +8,7 @@ use native.Mathlib.Omega.{arith}
 use Rattle.profile_check.proofs.crowd.is_noted.Goals as goal
 
 pub loop-j-init : goal.loop-j-init
-unfolding among any
+unfolding among
 loop-j-init c = (omega arith, refl)
 
 pub loop-j-preserved : goal.loop-j-preserved

@@ -1,6 +1,6 @@
 -- `request::checks::request_verdict` meets its contract: the verdicts of the parts, in the order of `request_verdict`.
 use mathlib.Core.Path.{◌≡◌, refl, sym, ◌∙◌}
-use Rattle.model.specs.declared.Verdict.TheVariants.{Pass}
+use Rattle.model.specs.Verdict.{Pass}
 use Rattle.model.specs.Request.{limits_verdict, forms_verdict, request_verdict}
 use Rattle.laws.proofs.Turns.{and_then-nothing}
 use Rattle.request.specs.CheckedRequest.{start_verdict}

@@ -3,8 +3,7 @@ use mathlib.Core.Path.{◌≡◌, sym, ap, subst, ◌∙◌}
 use mathlib.Core.Bool.{Bool}
 use Prim.Native.Nat.{ℕ, ◌≤◌, ◌<◌}
 use borrow.Author.Tests.{le-leb, lt-leb}
-use Rattle.model.specs.declared.Verdict.TheVariants.{Pass}
-use Rattle.model.specs.Verdict.{refuse_if}
+use Rattle.model.specs.Verdict.{Pass, refuse_if}
 use Rattle.model.specs.Profile.{layout_in, verdict_on}
 use Rattle.model.specs.Request.{ingress_verdict}
 use Rattle.laws.proofs.Turns.{refused_first, passed_first}
