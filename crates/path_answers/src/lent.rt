@@ -2,31 +2,21 @@
 ghost use Rattle.std.specs.Prelude.{◌≡◌, suc, ◌<◌};
 ghost use Rattle.model.specs.Calls.{room_verdict, given_verdict};
 
-use model::{Refusal, Verdict};
+use model::{Reason, Verdict};
+use refusal::refuse_if;
 
-// Room for a path, 34.
+// Room for a path.
 pub fn room_verdict(count: usize, room: usize) -> Verdict
     ensures { result ≡ room_verdict (suc count) room }
 {
-    if room <= count {
-        return Verdict::Refuse(Refusal {
-            number: 34,
-            place: 0,
-        });
-    }
-    Verdict::Pass
+    refuse_if(room <= count, Reason::LittleRoom, 0)
 }
 
-// A given list of a path's length, 33, then room for a path.
+// A given list of a path's length, then room for a path.
 pub fn given_verdict(given: usize, count: usize, room: usize) -> Verdict
     requires { count < 17 }
     ensures { result ≡ given_verdict given (suc count) room }
 {
-    if given != count + 1 {
-        return Verdict::Refuse(Refusal {
-            number: 33,
-            place: 0,
-        });
-    }
+    refuse_if(given != count + 1, Reason::GivenLength, 0)?;
     room_verdict(count, room)
 }

@@ -1,40 +1,38 @@
-// What a call for a path answers, by value: a refusal, no path, or a path with its total both ways and its round.
+// What a call for a path answers, by value, where it doesn't refuse: no path, or a path with its total both ways and its round.
 #![tactic(auto)]
 
-ghost use Rattle.std.specs.Prelude.{◌≡◌, List, ℕ, suc, ◌≤◌, ◌<◌};
+ghost use Rattle.std.specs.Prelude.{◌≡◌, List, ℕ, suc, ◌≤◌, ◌<◌, Ok};
 ghost use Rattle.model.specs.Request.{Search};
 ghost use Rattle.model.specs.Path.{shortest_paths};
-ghost use Rattle.model.specs.Answers.{refused4};
-ghost use Rattle.model.specs.Calls.{nothing, first_of, greater_than};
+ghost use Rattle.model.specs.Calls.{first_of, greater_than};
 ghost use Rattle.path_answers.specs.SearchResult.{nothing_in, found_in, ResultIs};
 ghost use Rattle.path_answers.specs.PathReply.{none_answer, none_number, ReplyIs};
 
 use bound::total_float;
-use model::{PathAnswer, Refusal, Round};
+use model::{PathAnswer, Round};
 
 pub mod lent;
 pub mod numbers;
 
-// What a search finds, whatever the engine: the round that applies, and a path found in it, its total, and its addresses at the start of `path`.
-#[derive(Clone, Copy)]
+// A path's total, and its addresses at the start of `addresses`.
+#[derive(Clone, Copy, Debug, PartialEq, Eq)]
+pub struct FoundPath {
+    pub total: u32,
+    pub addresses: [u32; 17],
+}
+
+// What a search finds, whatever the engine: the round that applies, and a path in it.
+#[derive(Clone, Copy, Debug, PartialEq, Eq)]
 pub struct SearchResult {
     pub round: Round,
-    pub found: bool,
-    pub total: u32,
-    pub path: [u32; 17],
+    pub found: Option<FoundPath>,
 }
 
 // Nothing is found in a round.
 pub fn nothing_in(round: Round) -> SearchResult
     ensures { result ≡ nothing_in round }
 {
-    let none = [0u32; 17];
-    SearchResult {
-        round,
-        found: false,
-        total: 0,
-        path: none,
-    }
+    SearchResult { round, found: None }
 }
 
 // A path is found in a round: the least total, and addresses that start with its own.
@@ -43,9 +41,10 @@ pub fn found_in(round: Round, least: u32, addresses: [u32; 17]) -> SearchResult
 {
     SearchResult {
         round,
-        found: true,
-        total: least,
-        path: addresses,
+        found: Some(FoundPath {
+            total: least,
+            addresses,
+        }),
     }
 }
 
@@ -57,49 +56,37 @@ pub struct PathReply {
     pub path: [u32; 17],
 }
 
-// No path, and why.
-pub fn refused(r: Refusal) -> PathReply
-    ensures { (room : ℕ) → ReplyIs (nothing (refused4 r)) room result }
-{
-    PathReply {
-        answer: PathAnswer::Refused(r),
-        count: 0,
-        path: [0u32; 17],
-    }
-}
-
 // There is no path: for first none at all, for next none that is greater.
 fn none_answer(again: bool) -> PathAnswer
     ensures { result ≡ none_answer again }
 {
     if again {
-        return PathAnswer::End;
+        PathAnswer::End
+    } else {
+        PathAnswer::NoPath
     }
-    PathAnswer::NoPath
 }
 
 // The path found, or the answer that there is none.
 pub fn answered(sought: SearchResult, count: usize, again: bool) -> PathReply
     requires { count < 17 }
-    ensures { (S : Search) (given : List ℕ) (room : ℕ) → ResultIs S given (suc count) sought → suc count ≤ room → ReplyIs (first_of sought.round (none_number again) (greater_than given (shortest_paths S))) room result }
+    ensures { (S : Search) (given : List ℕ) (room : ℕ) → ResultIs S given (suc count) sought → suc count ≤ room → ReplyIs (first_of sought.round (none_number again) (greater_than given (shortest_paths S))) room (Ok result) }
 {
-    let path = sought.path;
-    if !sought.found {
+    let Some(found) = sought.found else {
         return PathReply {
             answer: none_answer(again),
             count: 0,
-            path,
+            path: [0; 17],
         };
-    }
-    let total = sought.total;
-    let float = total_float(total);
-    let round = sought.round;
+    };
+    let path = found.addresses;
+    let answer = PathAnswer::Found {
+        total: found.total,
+        float: total_float(found.total),
+        round: sought.round,
+    };
     PathReply {
-        answer: PathAnswer::Found {
-            total,
-            float,
-            round,
-        },
+        answer,
         count: count + 1,
         path,
     }
