@@ -1,4 +1,5 @@
 -- The form of one subobject, check by check: which refusal it is once the checks before have passed. By putting the tests' values into the definition.
+use Rattle.std.specs.Prelude.{Option, Some, None}
 use mathlib.Core.Path.{◌≡◌, refl, ap, ◌∙◌}
 use mathlib.Core.Bool.{Bool, true, false, not, cond, ◌&&◌, or-false}
 use mathlib.Core.List.{List}
@@ -8,7 +9,9 @@ use lib.Dec.{eqb, leb, ltb}
 use lib.ListN.{get_or}
 use borrow.Author.Tests.{ne_eqb, lt-ltb, le-ltb}
 use Rattle.model.specs.declared.ListKind.{ListKind}
-use Rattle.model.specs.Verdict.{Verdict, Pass, refuse_if, ◌and_then◌}
+use Rattle.model.specs.declared.Reason.{Reason}
+use Rattle.model.specs.declared.Reason.TheVariants as Reason
+use Rattle.model.specs.Verdict.{Verdict, Pass, refuse_if, ◌and_then◌, number_of}
 use Rattle.model.specs.Reserved.{nobodys}
 use Rattle.model.specs.Bytes.{number, part, all_zero}
 use Rattle.model.specs.Subobject.{plain_verdict, known, length_fits, top_wrong, prefix_wrong, padding_wrong, field_wrong, type_at, top_at, length_at, area_length_at}
@@ -17,23 +20,23 @@ use Rattle.refusal.specs.Refused.{refusal}
 use Rattle.list_form.specs.Checks.{head_wrong, zero_from}
 use Rattle.list_subobject.proofs.FormLaws.{padded}
 
--- ---- the checks as the code makes them: those of the first three bytes together, as one number
+-- ---- the checks as the code makes them: those of the first three bytes together, as one reason or none
 
-abbrev numbered : ℕ → ℕ → Verdict
-numbered zero at = Pass
-numbered (suc n) at = refusal (suc n) at
+abbrev refused_by : Option Reason → ℕ → Verdict
+refused_by None at = Pass
+refused_by (Some r) at = refusal (number_of r) at
 
-told : (n at : ℕ) → (n ≡ 0 → ⊥) → numbered n at ≡ refusal n at
-told zero at d = absurd (d refl)
-told (suc n) at d = refl
+pub no-reason : (o : Option Reason) → ((r : Reason) → o ≡ Some r → ⊥) → o ≡ None
+no-reason None d = refl
+no-reason (Some r) d = absurd (d r refl)
 
-abbrev head_of : Bool → Bool → Bool → Bool → ℕ
-head_of z w a e = cond (not z) 24 (cond w 27 (cond a 26 (cond e 0 25)))
+abbrev head_of : Bool → Bool → Bool → Bool → Option Reason
+head_of z w a e = cond (not z) (Some Reason.UnknownType) (cond w (Some Reason.LooseBit) (cond a (Some Reason.WrongField) (cond e None (Some Reason.SubobjectLength))))
 
 -- b too short, z a known type, w L set, a a wrong area length, e the right length, p past the end, f a wrong field
 by_head : (b z w a e p f : Bool) (at : ℕ)
     → (refuse_if b 23 at and_then refuse_if (not z) 24 at and_then refuse_if w 27 at and_then refuse_if a 26 at and_then refuse_if (not e) 25 at and_then refuse_if p 23 at and_then refuse_if f 26 at)
-    ≡ (refuse_if b 23 at and_then numbered (head_of z w a e) at and_then refuse_if p 23 at and_then refuse_if f 26 at)
+    ≡ (refuse_if b 23 at and_then refused_by (head_of z w a e) at and_then refuse_if p 23 at and_then refuse_if f 26 at)
 by_head true z w a e p f at = refl
 by_head false false w a e p f at = refl
 by_head false true true a e p f at = refl
@@ -41,15 +44,15 @@ by_head false true false true e p f at = refl
 by_head false true false false true p f at = refl
 by_head false true false false false p f at = refl
 
-head_zero : (z w a e : Bool) → head_of z w a e ≡ 0 → e ≡ true
-head_zero false w a e q = absurd (omega arith)
-head_zero true true a e q = absurd (omega arith)
-head_zero true false true e q = absurd (omega arith)
-head_zero true false false true q = refl
-head_zero true false false false q = absurd (omega arith)
+head-none : (z w a e : Bool) → head_of z w a e ≡ None → e ≡ true
+head-none false w a e q = grind arith
+head-none true true a e q = grind arith
+head-none true false true e q = grind arith
+head-none true false false true q = refl
+head-none true false false false q = grind arith
 
 module _ (k : ListKind) (s : List ℕ) (end at : ℕ) where
-  abbrev pub head : ℕ
+  abbrev pub head : Option Reason
   head = head_wrong k (get_or s at 0) (length_at s at) (area_length_at s at)
 
   -- the tests of the head
@@ -67,24 +70,24 @@ module _ (k : ListKind) (s : List ℕ) (end at : ℕ) where
 
   judged
       : plain_verdict k s end at
-      ≡ (refuse_if (ltb end (at + 4)) 23 at and_then numbered head at and_then refuse_if (ltb end (at + length_at s at)) 23 at and_then refuse_if (field_wrong k s at) 26 at)
+      ≡ (refuse_if (ltb end (at + 4)) 23 at and_then refused_by head at and_then refuse_if (ltb end (at + length_at s at)) 23 at and_then refuse_if (field_wrong k s at) 26 at)
   unfolding plain_verdict head_wrong
   judged = by_head (ltb end (at + 4)) z w a e (ltb end (at + length_at s at)) (field_wrong k s at) at
 
   -- a right head says that the length is the type's
-  pub head-fits : head ≡ 0 → length_fits k (type_at s at) (area_length_at s at) (length_at s at) ≡ true
+  pub head-fits : head ≡ None → length_fits k (type_at s at) (area_length_at s at) (length_at s at) ≡ true
   unfolding head_wrong
-  head-fits q = head_zero z w a e q
+  head-fits q = head-none z w a e q
 
   -- which refusal it is once the checks before have passed
   pub short : end < at + 4 → plain_verdict k s end at ≡ refusal 23 at
   short h = judged ∙ (rw (lt-ltb end (at + 4) h) refl)
 
   module _ (long : at + 4 ≤ end) where
-    pub bad_head : (head ≡ 0 → ⊥) → plain_verdict k s end at ≡ refusal head at
-    bad_head d = judged ∙ (rw (le-ltb end (at + 4) long, told head at d) refl)
+    pub bad_head : (r : Reason) → head ≡ Some r → plain_verdict k s end at ≡ refusal (number_of r) at
+    bad_head r e = judged ∙ (rw (le-ltb end (at + 4) long, e) refl)
 
-    module _ (fine : head ≡ 0) where
+    module _ (fine : head ≡ None) where
       pub past_end : end < at + length_at s at → plain_verdict k s end at ≡ refusal 23 at
       past_end h = judged ∙ (rw (le-ltb end (at + 4) long, fine, lt-ltb end (at + length_at s at) h) refl)
 

@@ -10,7 +10,7 @@ ghost use Rattle.list_subobject.specs.Items.{Readable};
 ghost use Rattle.list_form.specs.Checks.{zero_from, head_wrong};
 
 use list_subobject::walk::next_after;
-use model::{ListKind, Verdict};
+use model::{ListKind, Reason, Verdict};
 use profile_reserved::as_nobodys;
 use refusal::refuse_at;
 use wire::{u16_at, u32_at, wide};
@@ -126,26 +126,26 @@ fn field_wrong(kind: ListKind, list: &[u8], at: usize) -> bool
 }
 
 // What is wrong with the first bytes of an EXRS, which only an include list knows: the type, L, a length under 4.
-fn exrs_head_wrong(kind: ListKind, first: u8, n: u8) -> u32
+fn exrs_head_wrong(kind: ListKind, first: u8, n: u8) -> Option<Reason>
     requires { first % 128 ≡ 33 }
     ensures { (area : ℕ) → result ≡ head_wrong kind first n area }
 {
     match kind {
-        ListKind::Exclude => 24,
+        ListKind::Exclude => Some(Reason::UnknownType),
         ListKind::Include => {
             if 128 <= first {
-                return 27;
+                return Some(Reason::LooseBit);
             }
             if n < 4 {
-                return 25;
+                return Some(Reason::SubobjectLength);
             }
-            0
+            None
         }
     }
 }
 
 // And with those of any other subobject.
-fn plain_head_wrong(kind: ListKind, first: u8, n: u8, area: u8) -> u32
+fn plain_head_wrong(kind: ListKind, first: u8, n: u8, area: u8) -> Option<Reason>
     requires { first % 128 ≢ 33 }
     ensures { result ≡ head_wrong kind first n area }
 {
@@ -153,22 +153,22 @@ fn plain_head_wrong(kind: ListKind, first: u8, n: u8, area: u8) -> u32
     let size = n as u32;
     let wanted = length_of(t, area);
     if wanted == 0 {
-        return 24;
+        return Some(Reason::UnknownType);
     }
     if top_wrong(kind, 128 <= first) {
-        return 27;
+        return Some(Reason::LooseBit);
     }
     if area_wrong(t, area) {
-        return 26;
+        return Some(Reason::WrongField);
     }
     if size != wanted {
-        return 25;
+        return Some(Reason::SubobjectLength);
     }
-    0
+    None
 }
 
-// What is wrong with a subobject's first three bytes, by the refusal's number in document 01's order, or 0.
-fn head_wrong(kind: ListKind, first: u8, n: u8, area: u8) -> u32
+// What is wrong with a subobject's first three bytes, in document 01's order.
+fn head_wrong(kind: ListKind, first: u8, n: u8, area: u8) -> Option<Reason>
     ensures { result ≡ head_wrong kind first n area }
 {
     if first % 128 == 33 {
@@ -184,20 +184,19 @@ fn plain_at(kind: ListKind, list: &[u8], at: usize, end: usize) -> Verdict
 {
     let left = end - at;
     if left < 4 {
-        return refuse_at(23, at);
+        return refuse_at(Reason::CutOff, at);
     }
     let n = list[at + 1];
-    let wrong = head_wrong(kind, list[at], n, list[at + 2]);
-    if wrong != 0 {
-        return refuse_at(wrong, at);
+    if let Some(reason) = head_wrong(kind, list[at], n, list[at + 2]) {
+        return refuse_at(reason, at);
     }
     if left < wide(n) {
-        return refuse_at(23, at);
+        return refuse_at(Reason::CutOff, at);
     }
     if field_wrong(kind, list, at) {
-        return refuse_at(26, at);
+        return refuse_at(Reason::WrongField, at);
     }
-    Verdict::Pass
+    Ok(())
 }
 
 // The form of what an EXRS carries: subobjects as in an exclude list, from an offset up to its end.
@@ -207,13 +206,10 @@ fn inside_form(list: &[u8], from: usize, end: usize) -> Verdict
 {
     let mut at = from;
     while at < end {
-        let verdict = plain_at(ListKind::Exclude, list, at, end);
-        if let Verdict::Refuse(r) = verdict {
-            return Verdict::Refuse(r);
-        }
+        plain_at(ListKind::Exclude, list, at, end)?;
         at = next_after(list, at);
     }
-    Verdict::Pass
+    Ok(())
 }
 
 // What an EXRS of right head carries: nothing inside is 26.
@@ -222,12 +218,12 @@ fn carried_at(list: &[u8], at: usize) -> Verdict
     ensures { result ≡ carried_if (eqb (type_at list.now at) 33) list.now at }
 {
     if list[at] % 128 != 33 {
-        return Verdict::Pass;
+        return Ok(());
     }
     let end = next_after(list, at);
     let inside = at + 4;
     if end == inside {
-        return refuse_at(26, at);
+        return refuse_at(Reason::WrongField, at);
     }
     inside_form(list, inside, end)
 }
@@ -237,12 +233,9 @@ fn form_at(kind: ListKind, list: &[u8], at: usize) -> Verdict
     requires { (at < length list.now) × (length list.now ≤ 1024) }
     ensures { result ≡ subobject_verdict kind list.now (length list.now) at }
 {
-    let plain = plain_at(kind, list, at, list.len());
-    if let Verdict::Refuse(r) = plain {
-        return Verdict::Refuse(r);
-    }
+    plain_at(kind, list, at, list.len())?;
     match kind {
-        ListKind::Exclude => Verdict::Pass,
+        ListKind::Exclude => Ok(()),
         ListKind::Include => carried_at(list, at),
     }
 }
@@ -254,11 +247,8 @@ pub fn form(kind: ListKind, list: &[u8]) -> Verdict
 {
     let mut at: usize = 0;
     while at < list.len() {
-        let verdict = form_at(kind, list, at);
-        if let Verdict::Refuse(r) = verdict {
-            return Verdict::Refuse(r);
-        }
+        form_at(kind, list, at)?;
         at = next_after(list, at);
     }
-    Verdict::Pass
+    Ok(())
 }

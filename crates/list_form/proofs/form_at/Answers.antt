@@ -1,5 +1,6 @@
 -- `list_form::form_at` meets its contract: the subobject itself, and then in an include list what it carries.
 use Rattle.std.specs.Prelude.{Err}
+use borrow.Author.Rules.{rules}
 use mathlib.Core.Path.{◌≡◌, sym, ap, ◌∙◌}
 use mathlib.Core.List.{List}
 use Prim.Native.Nat.{ℕ}
@@ -27,16 +28,11 @@ module _ (s : List ℕ) (end at : ℕ) where
   unfolding subobject_verdict
   then-carried e = passed_first (plain_verdict Include s end at) (carried_if (eqb (type_at s at) 33) s at) e
 
-pub returns-in-Refuse : goal.returns-in-Refuse
-returns-in-Refuse c =
+pub returns-in_err-plain_at : goal.returns-in_err-plain_at
+returns-in_err-plain_at c =
     let a = c.args in
-    sym (plain-refused a.list.now (length a.list.now) a.at a.kind _ (sym c.plain_at-plain.ensures ∙ c.in-Refuse.is))
-
-pub carried_at-requires : goal.carried_at-requires
-carried_at-requires c =
-    let a = c.args in
-    let s = a.list.now in
-    (ap (λ (k : ListKind). plain_verdict k s (length s) a.at) (sym c.in-Include.is) ∙ sym c.plain_at-plain.ensures ∙ c.in_default.is, c.requires.1)
+    let e = plain-refused a.list.now (length a.list.now) a.at a.kind _ (sym c.plain_at.ensures ∙ c.in_err-plain_at.was) in
+    search rules
 
 pub returns-in-Exclude : goal.returns-in-Exclude
 returns-in-Exclude c =
@@ -45,7 +41,7 @@ returns-in-Exclude c =
     sym
     (ap (λ (k : ListKind). subobject_verdict k s (length s) a.at) c.in-Exclude.is
     ∙ plain-alone s (length s) a.at
-    (ap (λ (k : ListKind). plain_verdict k s (length s) a.at) (sym c.in-Exclude.is) ∙ sym c.plain_at-plain.ensures ∙ c.in_default.is))
+    (ap (λ (k : ListKind). plain_verdict k s (length s) a.at) (sym c.in-Exclude.is) ∙ sym c.plain_at.ensures ∙ c.in_ok-plain_at.was))
 
 pub returns-in-Include : goal.returns-in-Include
 returns-in-Include c =
@@ -55,4 +51,4 @@ returns-in-Include c =
     ∙ sym
     (ap (λ (k : ListKind). subobject_verdict k s (length s) a.at) c.in-Include.is
     ∙ then-carried s (length s) a.at
-    (ap (λ (k : ListKind). plain_verdict k s (length s) a.at) (sym c.in-Include.is) ∙ sym c.plain_at-plain.ensures ∙ c.in_default.is))
+    (ap (λ (k : ListKind). plain_verdict k s (length s) a.at) (sym c.in-Include.is) ∙ sym c.plain_at.ensures ∙ c.in_ok-plain_at.was))

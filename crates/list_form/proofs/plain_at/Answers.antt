@@ -1,19 +1,19 @@
 -- `list_form::plain_at` meets its contract: the tests that led to each `return` are the checks of `plain_verdict` in their order.
+use Rattle.std.specs.Prelude.{None}
 use Prim.Native.Nat.{ℕ, ◌+◌, ◌≤◌}
 use mathlib.Core.Path.{◌≡◌, sym, ap, ◌∙◌}
 use native.Mathlib.Omega.{arith}
 use Rattle.model.specs.Subobject.{length_at}
-use Rattle.refusal.specs.Refused.{refusal}
-use Rattle.list_form.proofs.FormChecks.{head, head-fits, short, bad_head, past_end, by_field}
+use Rattle.list_form.proofs.FormChecks.{head, no-reason, head-fits, short, bad_head, past_end, by_field}
 use Rattle.list_form.proofs.plain_at.Goals as goal
-use Rattle.list_form.proofs.plain_at.Goals.{Else-left-lt4, Else-left-wide, Else-wrong-ne0}
+use Rattle.list_form.proofs.plain_at.Goals.{Else-left-lt4, Else-left-wide, In_default}
 
 -- what the tests passed say, place by place
 four : (c : Else-left-lt4) → c.args.at + 4 ≤ c.args.end
 four c = omega arith
 
-right-head : (c : Else-wrong-ne0) → let a = c.args in head a.kind a.list.now a.end a.at ≡ 0
-right-head c = sym c.head_wrong-wrong.ensures ∙ c.if-wrong-ne0.false
+right-head : (c : In_default) → let a = c.args in head a.kind a.list.now a.end a.at ≡ None
+right-head c = sym c.head_wrong.ensures ∙ no-reason c.head_wrong.result c.in_default.not-Some
 
 in_list : (c : Else-left-wide) → let a = c.args in a.at + length_at a.list.now a.at ≤ a.end
 in_list c =
@@ -26,13 +26,11 @@ returns-then-left-lt4 c =
     let a = c.args in
     c.refuse_at.ensures ∙ sym (short a.kind a.list.now a.end a.at (omega arith))
 
-pub returns-then-wrong-ne0 : goal.returns-then-wrong-ne0
-returns-then-wrong-ne0 c =
+pub returns-in-Some : goal.returns-in-Some
+returns-in-Some c =
     let a = c.args in
-    let n = c.head_wrong-wrong.ensures in
-    c.refuse_at-then-wrong-ne0.ensures
-    ∙ ap (λ (x : ℕ). refusal x a.at) n
-    ∙ sym (bad_head a.kind a.list.now a.end a.at (four (goal.at.returns-then-wrong-ne0 c).Else-left-lt4) (λ e. c.if-wrong-ne0.true (n ∙ e)))
+    c.refuse_at-in-Some.ensures
+    ∙ sym (bad_head a.kind a.list.now a.end a.at (four (goal.at.returns-in-Some c).Else-left-lt4) c.in-Some.reason (sym c.head_wrong.ensures ∙ c.in-Some.is))
 
 pub returns-then-left-wide : goal.returns-then-left-wide
 returns-then-left-wide c =
@@ -40,7 +38,7 @@ returns-then-left-wide c =
     let n = c.wide.ensures.0 in
     let h = c.requires.0 in
     c.refuse_at-then-left-wide.ensures
-    ∙ sym (past_end a.kind a.list.now a.end a.at (four (goal.at.returns-then-left-wide c).Else-left-lt4) (right-head (goal.at.returns-then-left-wide c).Else-wrong-ne0) (omega arith))
+    ∙ sym (past_end a.kind a.list.now a.end a.at (four (goal.at.returns-then-left-wide c).Else-left-lt4) (right-head (goal.at.returns-then-left-wide c).In_default) (omega arith))
 
 pub field_wrong-requires : goal.field_wrong-requires
 field_wrong-requires c =
@@ -49,16 +47,16 @@ field_wrong-requires c =
       kind = a.kind;
       long = omega (arith, four (goal.at.field_wrong-requires c).Else-left-lt4);
       inside = omega (arith, in_list (goal.at.field_wrong-requires c).Else-left-wide);
-      fits = head-fits a.kind a.list.now a.end a.at (right-head (goal.at.field_wrong-requires c).Else-wrong-ne0);
+      fits = head-fits a.kind a.list.now a.end a.at (right-head (goal.at.field_wrong-requires c).In_default);
     }
 
 pub returns-then-field_wrong : goal.returns-then-field_wrong
 returns-then-field_wrong c =
     let a = c.args in
     c.refuse_at-then-field_wrong.ensures
-    ∙ sym (by_field a.kind a.list.now a.end a.at (four (goal.at.returns-then-field_wrong c).Else-left-lt4) (right-head (goal.at.returns-then-field_wrong c).Else-wrong-ne0) (sym c.if-field_wrong.true ∙ c.field_wrong.ensures) (in_list (goal.at.returns-then-field_wrong c).Else-left-wide))
+    ∙ sym (by_field a.kind a.list.now a.end a.at (four (goal.at.returns-then-field_wrong c).Else-left-lt4) (right-head (goal.at.returns-then-field_wrong c).In_default) (sym c.if-field_wrong.true ∙ c.field_wrong.ensures) (in_list (goal.at.returns-then-field_wrong c).Else-left-wide))
 
 pub returns : goal.returns
 returns c =
     let a = c.args in
-    sym (by_field a.kind a.list.now a.end a.at (four (goal.at.returns c).Else-left-lt4) (right-head (goal.at.returns c).Else-wrong-ne0) (sym c.if-field_wrong.false ∙ c.field_wrong.ensures) (in_list (goal.at.returns c).Else-left-wide))
+    sym (by_field a.kind a.list.now a.end a.at (four (goal.at.returns c).Else-left-lt4) (right-head (goal.at.returns c).In_default) (sym c.if-field_wrong.false ∙ c.field_wrong.ensures) (in_list (goal.at.returns c).Else-left-wide))
