@@ -8,7 +8,6 @@ use native.Mathlib.Omega.{arith}
 use borrow.Author.Tests.{le-leb, lt-leb, leb-true, ne_eqb, eqb-true, eqb-false}
 use lib.ListN.{length, get_or, drop, drop_of_length-le}
 use lib.Dec.{eqb, leb}
-use Rattle.model.specs.Lists.{all, any}
 use Rattle.model.specs.Bytes.{all_zero}
 use Rattle.model.specs.Profile.{area_length_fits}
 

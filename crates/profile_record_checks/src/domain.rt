@@ -4,11 +4,11 @@ ghost use Rattle.model.specs.Bytes.{all_zero};
 ghost use Rattle.model.specs.Verdict.{in_turn};
 ghost use Rattle.model.specs.Profile.{domain_count, domain_start, area_length_fits, domain_malformed, domain_misordered, domain_verdict};
 
-use model::Verdict;
+use model::{Reason, Verdict};
 use profile_records::domain::domain_at;
 use profile_records::header::{class_of, domain_count};
 use profile_reserved::{as_misplaced, as_nobodys};
-use refusal::first_wrong;
+use refusal::refuse_if;
 use wire::order::record_below;
 
 // Whether an area of this kind may have this length.
@@ -69,12 +69,14 @@ fn domain_verdict(s: &[u8], i: usize) -> Verdict
     requires { (i < 65536) × (domain_start i + 20 ≤ length s.now) }
     ensures { result ≡ domain_verdict s.now i }
 {
-    let malformed = domain_malformed(s, i);
-    let misordered = domain_misordered(s, i);
-    let class = class_of(s);
+    refuse_if(domain_malformed(s, i), Reason::MalformedDomain, i as u32)?;
+    refuse_if(domain_misordered(s, i), Reason::MisorderedDomain, i as u32)?;
     let d = domain_at(s, i);
-    let misplaced = as_misplaced(class, d.asn);
-    first_wrong(malformed, misordered, misplaced, 14, 15, 16, i as u32)
+    refuse_if(
+        as_misplaced(class_of(s), d.asn),
+        Reason::Misplaced,
+        i as u32,
+    )
 }
 
 // Every domain record in turn.
@@ -83,16 +85,8 @@ pub fn domains_verdict(s: &[u8]) -> Verdict
     ensures { result ≡ in_turn (domain_verdict s.now) 0 (domain_count s.now) }
 {
     let domains = domain_count(s) as usize;
-    let mut i = 0;
-    while i < domains {
-        let v = domain_verdict(s, i);
-        match v {
-            Verdict::Pass => {}
-            Verdict::Refuse(r) => {
-                return Verdict::Refuse(r);
-            }
-        }
-        i += 1;
+    for i in 0..domains {
+        domain_verdict(s, i)?;
     }
-    Verdict::Pass
+    Ok(())
 }

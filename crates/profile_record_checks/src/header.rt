@@ -3,10 +3,10 @@ ghost use Rattle.std.specs.Prelude.{◌≡◌, ◌≤◌, length};
 ghost use Rattle.model.specs.Profile.{header_wrong, counts_wrong, length_wrong, header_verdict};
 ghost use Rattle.profile_records.specs.Layout.{layout_of, SoundLayout};
 
-use model::Verdict;
+use model::{Reason, Verdict};
 use profile_records::header::{class_of, domain_count, hop_count};
 use profile_records::layout::Layout;
-use refusal::{first_wrong, refuse};
+use refusal::{refuse, refuse_if};
 use wire::{u16_at, u32_at};
 
 // Mark, version or zero bytes wrong.
@@ -47,10 +47,9 @@ pub fn header_verdict(s: &[u8], layout: Layout) -> Verdict
     ensures { result ≡ header_verdict (layout_of layout) s.now }
 {
     if s.len() < 12 {
-        return refuse(10, 0);
+        return refuse(Reason::ShortProfile, 0);
     }
-    let marked = header_wrong(s, layout);
-    let counted = counts_wrong(s, layout);
-    let sized = length_wrong(s, layout);
-    first_wrong(marked, counted, sized, 11, 12, 13, 0)
+    refuse_if(header_wrong(s, layout), Reason::WrongHeader, 0)?;
+    refuse_if(counts_wrong(s, layout), Reason::WrongCounts, 0)?;
+    refuse_if(length_wrong(s, layout), Reason::WrongLength, 0)
 }

@@ -6,12 +6,12 @@ ghost use Rattle.profile_records.specs.Layout.{layout_of, HopWithin, HopsWithin}
 ghost use Rattle.profile_record_checks.specs.Misplaced.{hop_misplaced};
 
 use crate::run::run_end;
-use model::{NodeAddress, Verdict};
+use model::{NodeAddress, Reason, Verdict};
 use profile_records::header::{class_of, domain_count, hop_count};
 use profile_records::hop::hop_start;
 use profile_records::layout::Layout;
 use profile_reserved::address_misplaced;
-use refusal::first_wrong;
+use refusal::refuse_if;
 use wire::order::record_below;
 use wire::u32_at;
 
@@ -65,19 +65,10 @@ fn hop_verdict(s: &[u8], layout: Layout, i: usize) -> Verdict
     requires hop_within { HopWithin (layout_of layout) s.now i }
     ensures { result ≡ hop_verdict (layout_of layout) s.now i }
 {
-    let malformed = hop_malformed(s, layout, i);
-    let misordered = hop_misordered(s, layout, i);
-    let misplaced = hop_misplaced(s, layout, i);
-    let domains = domain_count(s) as usize;
-    first_wrong(
-        malformed,
-        misordered,
-        misplaced,
-        17,
-        18,
-        16,
-        (domains + i) as u32,
-    )
+    let place = (domain_count(s) as usize + i) as u32;
+    refuse_if(hop_malformed(s, layout, i), Reason::MalformedHop, place)?;
+    refuse_if(hop_misordered(s, layout, i), Reason::MisorderedHop, place)?;
+    refuse_if(hop_misplaced(s, layout, i), Reason::Misplaced, place)
 }
 
 // Every hop record in turn: the first of each tail by all its checks, the others of that tail by those that are left for them.
@@ -88,14 +79,8 @@ pub fn hops_verdict(s: &[u8], layout: Layout) -> Verdict
     let hops = hop_count(s) as usize;
     let mut i = 0;
     while i < hops {
-        let v = hop_verdict(s, layout, i);
-        match v {
-            Verdict::Pass => {}
-            Verdict::Refuse(r) => {
-                return Verdict::Refuse(r);
-            }
-        }
+        hop_verdict(s, layout, i)?;
         i = run_end(s, layout, i, hops);
     }
-    Verdict::Pass
+    Ok(())
 }

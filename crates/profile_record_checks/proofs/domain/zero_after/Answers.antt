@@ -1,7 +1,6 @@
 -- `profile_record_checks::domain::zero_after` meets its contract. The loop's invariant: what is left from `j` on decides. The measure is what is left of 13.
 use Rattle.profile_record_checks.proofs.Areas.{zero_byte, other_byte, no_byte}
 use mathlib.Core.Path.{sym, ◌∙◌}
-use Prim.Native.Nat.{◌-◌}
 use native.Mathlib.Omega.{arith}
 use Rattle.profile_record_checks.proofs.domain.zero_after.Goals as goal
 

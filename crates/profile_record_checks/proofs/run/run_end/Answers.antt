@@ -3,7 +3,7 @@
 use Rattle.profile_record_checks.proofs.Runs.{fields-inside, running_start, next_inside, running_next, running_end}
 use Rattle.profile_records.proofs.Fields.{hop-within}
 use Rattle.profile_records.specs.Layout.{layout_of}
-use Prim.Native.Nat.{ℕ, ◌-◌}
+use Prim.Native.Nat.{ℕ}
 use native.Mathlib.Omega.{arith}
 use Rattle.profile_record_checks.proofs.run.run_end.Goals as goal
 
