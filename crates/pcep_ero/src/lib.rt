@@ -7,7 +7,7 @@ ghost use Rattle.model.specs.Lists.{over};
 ghost use Rattle.pcep_model.specs.Pcrep.{step_verdict, ero_verdict, addresses_in};
 ghost use Rattle.pcep_ero.specs.Left.{LeftDecides};
 
-use model::Verdict;
+use model::{Reason, Verdict};
 use refusal::refuse;
 use wire::u32_at;
 
@@ -18,25 +18,25 @@ fn step_verdict(body: &[u8], at: usize) -> Verdict
 {
     let left = body.len() - at;
     if left < 4 {
-        return refuse(23, at as u32);
+        return refuse(Reason::CutOff, at as u32);
     }
     let first = body[at];
     if first % 128 != 1 {
-        return refuse(24, at as u32);
+        return refuse(Reason::UnknownType, at as u32);
     }
     if 128 <= first {
-        return refuse(27, at as u32);
+        return refuse(Reason::LooseBit, at as u32);
     }
     if body[at + 1] != 8 {
-        return refuse(25, at as u32);
+        return refuse(Reason::SubobjectLength, at as u32);
     }
     if left < 8 {
-        return refuse(23, at as u32);
+        return refuse(Reason::CutOff, at as u32);
     }
     if body[at + 6] != 32 {
-        return refuse(26, at as u32);
+        return refuse(Reason::WrongField, at as u32);
     }
-    Verdict::Pass
+    Ok(())
 }
 
 // A right subobject, told by three looks where its 8 bytes are there. (One that isn't told so is looked at again.)
@@ -44,13 +44,7 @@ fn step_right(body: &[u8], at: usize) -> bool
     requires { at + 8 ≤ length body.now }
     ensures { result ≡ true → step_verdict body.now at ≡ Pass }
 {
-    if body[at] != 1 {
-        return false;
-    }
-    if body[at + 1] != 8 {
-        return false;
-    }
-    body[at + 6] == 32
+    body[at] == 1 && body[at + 1] == 8 && body[at + 6] == 32
 }
 
 // How far the subobjects are right: what is left from there on decides.
@@ -76,13 +70,10 @@ pub fn ero_verdict(body: &[u8]) -> Verdict
 {
     let mut at = right_until(body);
     while at < body.len() {
-        let verdict = step_verdict(body, at);
-        if let Verdict::Refuse(r) = verdict {
-            return Verdict::Refuse(r);
-        }
+        step_verdict(body, at)?;
         at += 8;
     }
-    Verdict::Pass
+    Ok(())
 }
 
 // How many addresses a body of right form has.
@@ -98,10 +89,7 @@ pub fn put_addresses(body: &[u8], out: &mut [u32])
     requires { (ero_verdict body.now ≡ Pass) × (length body.now ≤ 65535) × (length (addresses_in body.now) ≤ length out.old) }
     ensures { out.new ≡ over (addresses_in body.now) out.old }
 {
-    let n = address_count(body);
-    let mut i = 0;
-    while i < n {
+    for i in 0..address_count(body) {
         out[i] = u32_at(body, 8 * i + 2);
-        i += 1;
     }
 }

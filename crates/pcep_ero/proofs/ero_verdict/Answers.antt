@@ -1,30 +1,23 @@
 -- `pcep_ero::ero_verdict` meets its contract. The loop's invariant: what is left from the offset on is refused as the whole body is. The measure is what is left.
 use mathlib.Core.Path.{◌≡◌, sym, ◌∙◌}
-use Rattle.pcep_model.specs.Pcrep.{step_verdict}
+use Rattle.std.proofs.Common.{rules}
+use Rattle.std.specs.Prelude.{Err}
 use Rattle.pcep_ero.proofs.Addresses.{eight, verdict-end, verdict-refused, verdict_next}
 use Rattle.pcep_ero.proofs.ero_verdict.Goals as goal
-use Rattle.pcep_ero.proofs.ero_verdict.Goals.{In_default}
-use Rattle.model.specs.Verdict.{Pass}
 
--- the subobject at hand passes
-right : (c : In_default) → step_verdict c.args.body.now c.loop-at.at ≡ Pass
-right c = sym c.step_verdict-verdict.ensures ∙ c.in_default.is
-
-pub loop-at-init : goal.loop-at-init
-loop-at-init c = c.right_until-at.ensures
-
-pub returns-in-Refuse : goal.returns-in-Refuse
-returns-in-Refuse c =
+pub returns-in_err-step_verdict : goal.returns-in_err-step_verdict
+returns-in_err-step_verdict c =
     let a = c.args in
     let l = c.loop-at in
-    sym (verdict-refused a.body.now l.at c.loop-at-test.true _ (sym c.step_verdict-verdict.ensures ∙ c.in-Refuse.is))
-    ∙ l.invariant.decides
+    let r = c.in_err-step_verdict.field-0.0 in
+    let out : c.from_residual.result ≡ Err r = search rules in
+    out ∙ sym (verdict-refused a.body.now l.at c.loop-at-test.true r (sym c.step_verdict.ensures ∙ c.in_err-step_verdict.was)) ∙ l.invariant.decides
 
 pub loop-at-preserved : goal.loop-at-preserved
 loop-at-preserved c =
     let a = c.args in
     let l = c.loop-at in
-    let e = right (goal.at.loop-at-preserved c).In_default in
+    let e = sym c.step_verdict.ensures ∙ c.in_ok-step_verdict.was in
     record {
       reached = (eight a.body.now l.at e).whole;
       decides = sym (verdict_next a.body.now l.at c.loop-at-test.true e) ∙ l.invariant.decides;
