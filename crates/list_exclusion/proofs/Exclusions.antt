@@ -8,14 +8,14 @@ use lib.ListN.{length}
 use Rattle.model.specs.declared.Domain.{Domain}
 use Rattle.model.specs.declared.ListKind.TheVariants.{Exclude}
 use Rattle.model.specs.declared.Round.{Round}
-use Rattle.model.specs.declared.Verdict.TheVariants as Verdict
+use Rattle.model.specs.Verdict.{Pass}
 use Rattle.model.specs.Subobject as M
 use Rattle.model.specs.Exclusion.{counts, in_force, takes_domain, takes_node, excluded_domain, excluded_node}
 use Rattle.laws.proofs.Picks.{any-keep}
 use Rattle.list_subobject.specs.declared.item.Item.{Item}
 use Rattle.list_subobject.specs.Items.{named_of, Readable, ItemAt}
 use Rattle.list_exclusion.proofs.OnePass.{some_there, readable_there, hit, miss}
-use Rattle.list_exclusion.proofs.OnePass as Pass
+use Rattle.list_exclusion.proofs.OnePass as OnePass
 
 module _ (q : Bool → M.Named → Bool) (s : List ℕ) where
   abbrev test : M.Subobject → Bool
@@ -26,15 +26,15 @@ module _ (q : Bool → M.Named → Bool) (s : List ℕ) where
   some_named = some_there test Exclude s (length s) 0
 
   abbrev pub Undecided : ℕ → Type 0
-  Undecided at = Pass.Undecided test Exclude s (length s) 0 at
+  Undecided at = OnePass.Undecided test Exclude s (length s) 0 at
 
-  pub undecided : M.form_verdict Exclude s ≡ Verdict.Pass → Undecided 0
+  pub undecided : M.form_verdict Exclude s ≡ Pass → Undecided 0
   unfolding M.form_verdict
-  undecided e = Pass.undecided test Exclude s (length s) 0 (omega arith) e
+  undecided e = OnePass.undecided test Exclude s (length s) 0 (omega arith) e
 
   module _ (at : ℕ) (u : Undecided at) where
     pub none_left : length s ≤ at → false ≡ some_named
-    none_left = Pass.none_left test Exclude s (length s) 0 at u
+    none_left = OnePass.none_left test Exclude s (length s) 0 at u
 
     module _ (h : at < length s) where
       pub readable_here : Readable s at
