@@ -9,7 +9,7 @@ use borrow.Author.Tests.{eqb-true}
 use lib.ListN.{length, take, drop, set, get_or, replicate, length-set, take-append-drop}
 use lib.Seq.{take-suc-set, drop-set-lt, drop-cons}
 use lib.Dec.{eqb}
-use Rattle.model.specs.Lists.{any, among}
+use Rattle.model.specs.Lists.{among}
 use Rattle.laws.proofs.Different.{among-append}
 use Rattle.profile_check.specs.Noting.{Padded, Added}
 

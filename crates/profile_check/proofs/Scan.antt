@@ -7,7 +7,7 @@ use native.Mathlib.Numerals.{add-one}
 use lib.ListN.{length, get_or, take}
 use lib.Seq.{take-suc}
 use lib.Dec.{eqb}
-use Rattle.model.specs.Lists.{any, among}
+use Rattle.model.specs.Lists.{among}
 use Rattle.laws.proofs.Different.{eqb_sym, among-append}
 
 pub found_next : (xs : List ℕ) (x j : ℕ) → j < length xs → among x (take j xs) || eqb (get_or xs j 0) x ≡ among x (take (j + 1) xs)

@@ -7,7 +7,7 @@ ghost use Rattle.model.specs.Profile.{hop_count, hop_verdict, crowded_verdict};
 ghost use Rattle.profile_records.specs.Layout.{layout_of, HopsWithin};
 ghost use Rattle.profile_check.specs.Noting.{Padded, Added};
 
-use model::{DomainIndex, NodeAddress, Verdict};
+use model::{DomainIndex, NodeAddress, Reason, Verdict};
 use profile_records::header::{domain_count, hop_count};
 use profile_records::hop::hop_at;
 use profile_records::layout::Layout;
@@ -89,10 +89,10 @@ pub fn crowded_verdict(s: &[u8], layout: Layout) -> Verdict
         if from.0 != to.0 {
             count = note(&mut noted, count, head);
             if 16 < count {
-                return refuse(19, (domains + i) as u32);
+                return refuse(Reason::CrowdedPair, (domains + i) as u32);
             }
         }
         i += 1;
     }
-    Verdict::Pass
+    Ok(())
 }

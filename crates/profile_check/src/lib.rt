@@ -8,7 +8,7 @@ ghost use Rattle.model.specs.Profile.{profile_verdict, verdict_on};
 ghost use Rattle.profile_records.specs.Layout.{layout_of, SoundLayout};
 
 use crate::crowd::crowded_verdict;
-use model::{ProfileAnswer, Verdict};
+use model::Verdict;
 use profile_record_checks::domain::domains_verdict;
 use profile_record_checks::header::header_verdict;
 use profile_record_checks::hop::hops_verdict;
@@ -21,27 +21,9 @@ pub fn profile_verdict(s: &[u8], layout: Layout) -> Verdict
     requires { SoundLayout (layout_of layout) }
     ensures { result ≡ profile_verdict (layout_of layout) s.now }
 {
-    let header = header_verdict(s, layout);
-    match header {
-        Verdict::Pass => {}
-        Verdict::Refuse(r) => {
-            return Verdict::Refuse(r);
-        }
-    }
-    let first = domains_verdict(s);
-    match first {
-        Verdict::Pass => {}
-        Verdict::Refuse(r) => {
-            return Verdict::Refuse(r);
-        }
-    }
-    let second = hops_verdict(s, layout);
-    match second {
-        Verdict::Pass => {}
-        Verdict::Refuse(r) => {
-            return Verdict::Refuse(r);
-        }
-    }
+    header_verdict(s, layout)?;
+    domains_verdict(s)?;
+    hops_verdict(s, layout)?;
     crowded_verdict(s, layout)
 }
 
@@ -53,12 +35,8 @@ pub fn verdict_on(profile: &[u8]) -> Verdict
 }
 
 // Whether the calculator takes a profile, and by which number and at which place it refuses it. For every byte slice.
-pub fn check_profile(profile: &[u8]) -> ProfileAnswer
+pub fn check_profile(profile: &[u8]) -> Verdict
     ensures { numbers_of_profile result ≡ check_profile profile.now }
 {
-    let v = verdict_on(profile);
-    match v {
-        Verdict::Pass => ProfileAnswer::Accepted,
-        Verdict::Refuse(r) => ProfileAnswer::Refused(r),
-    }
+    verdict_on(profile)
 }

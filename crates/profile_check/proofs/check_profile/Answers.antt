@@ -1,12 +1,15 @@
--- `profile_check::check_profile` meets its contract: each arm is a case of `profile_numbers`.
-use mathlib.Core.Path.{sym, ap, ◌∙◌}
+-- `profile_check::check_profile` meets its contract: the numbers of the verdict are the call's, by its two cases.
+use Rattle.std.specs.Prelude.{Ok, Err}
+use mathlib.Core.Path.{◌≡◌, refl, ap, ◌∙◌}
+use Rattle.model.specs.Verdict.{Verdict}
+use Rattle.model.specs.Answers.{numbers_of_profile}
 use Rattle.model.specs.Calls.{profile_numbers, check_profile}
 use Rattle.profile_check.proofs.check_profile.Goals as goal
 
-pub returns-in-Pass : goal.returns-in-Pass
-unfolding check_profile
-returns-in-Pass c = sym (ap profile_numbers (sym c.verdict_on-v.ensures ∙ c.in-Pass.is))
+same_numbers : (v : Verdict) → numbers_of_profile v ≡ profile_numbers v
+same_numbers (Ok _) = refl
+same_numbers (Err r) = refl
 
-pub returns-in-Refuse : goal.returns-in-Refuse
+pub returns : goal.returns
 unfolding check_profile
-returns-in-Refuse c = sym (ap profile_numbers (sym c.verdict_on-v.ensures ∙ c.in-Refuse.is))
+returns c = same_numbers c.verdict_on.result ∙ ap profile_numbers c.verdict_on.ensures

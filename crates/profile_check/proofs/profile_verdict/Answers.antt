@@ -1,4 +1,5 @@
 -- `profile_check::profile_verdict` meets its contract: a header that passed says that every record lies in the file, and hop records that passed are in order.
+use borrow.Author.Rules.{rules}
 use Rattle.profile_check.proofs.Passed.{passed-header}
 use Rattle.profile_records.specs.Layout.{layout_of}
 use Rattle.model.specs.Profile.{profile_verdict}
@@ -6,67 +7,35 @@ use mathlib.Core.Path.{sym, ◌∙◌}
 use native.Mathlib.Omega.{arith}
 use Rattle.profile_check.proofs.profile_verdict.Goals as goal
 
-pub returns-in-Refuse : goal.returns-in-Refuse
+pub returns-in_err-header_verdict : goal.returns-in_err-header_verdict
 unfolding profile_verdict
-returns-in-Refuse c = sym (rw (sym c.header_verdict-header.ensures ∙ c.in-Refuse.is))
+returns-in_err-header_verdict c = search rules
 
-pub domains_verdict-first-requires : goal.domains_verdict-first-requires
-domains_verdict-first-requires c =
-    let p =
-    passed-header
-    (layout_of c.args.layout) c.args.s.now
-    (sym c.header_verdict-header.ensures ∙ c.in-Pass.is) in
+pub domains_verdict-requires : goal.domains_verdict-requires
+domains_verdict-requires c =
+    let p = passed-header (layout_of c.args.layout) c.args.s.now (sym c.header_verdict.ensures ∙ c.in_ok-header_verdict.was) in
     omega arith
 
-pub returns-in-Refuse-first : goal.returns-in-Refuse-first
+pub returns-in_err-domains_verdict : goal.returns-in_err-domains_verdict
 unfolding profile_verdict
-returns-in-Refuse-first c =
-    sym
-    (rw (
-      sym c.header_verdict-header.ensures ∙ c.in-Pass.is,
-      sym c.domains_verdict-first.ensures ∙ c.in-Refuse-first.is,
-    ))
+returns-in_err-domains_verdict c = search rules
 
-pub hops_verdict-second-requires : goal.hops_verdict-second-requires
-hops_verdict-second-requires c =
-    let p =
-    passed-header
-    (layout_of c.args.layout)
-    c.args.s.now
-    (sym c.header_verdict-header.ensures ∙ c.in-Pass.is) in
+pub hops_verdict-requires : goal.hops_verdict-requires
+hops_verdict-requires c =
+    let p = passed-header (layout_of c.args.layout) c.args.s.now (sym c.header_verdict.ensures ∙ c.in_ok-header_verdict.was) in
     record { layout = c.requires; inside = omega arith }
 
-pub returns-in-Refuse-second : goal.returns-in-Refuse-second
+pub returns-in_err-hops_verdict : goal.returns-in_err-hops_verdict
 unfolding profile_verdict
-returns-in-Refuse-second c =
-    sym
-    (rw (
-      sym c.header_verdict-header.ensures
-          ∙ c.in-Pass.is,
-      sym c.domains_verdict-first.ensures ∙ c.in-Pass-first.is,
-      sym c.hops_verdict-second.ensures ∙ c.in-Refuse-second.is,
-    ))
+returns-in_err-hops_verdict c = search rules
 
 pub crowded_verdict-requires : goal.crowded_verdict-requires
 crowded_verdict-requires c =
-    let p =
-    passed-header
-    (layout_of c.args.layout)
-    c.args.s.now
-    (sym c.header_verdict-header.ensures
-    ∙ c.in-Pass.is) in record {
+    let p = passed-header (layout_of c.args.layout) c.args.s.now (sym c.header_verdict.ensures ∙ c.in_ok-header_verdict.was) in record {
       hops_within = record { layout = c.requires; inside = omega arith };
-      s_value = sym c.hops_verdict-second.ensures ∙ c.in-Pass-second.is;
+      s_value = sym c.hops_verdict.ensures ∙ c.in_ok-hops_verdict.was;
     }
 
 pub returns : goal.returns
 unfolding profile_verdict
-returns c =
-    c.crowded_verdict.ensures
-    ∙ sym
-    (rw (
-      sym c.header_verdict-header.ensures
-          ∙ c.in-Pass.is,
-      sym c.domains_verdict-first.ensures ∙ c.in-Pass-first.is,
-      sym c.hops_verdict-second.ensures ∙ c.in-Pass-second.is,
-    ))
+returns c = search rules

@@ -11,7 +11,7 @@ use Rattle.model.specs.Profile.{hop_count}
 use lib.Dec.{eqb}
 use mathlib.Core.Bool.{◌&&◌}
 use mathlib.Core.Path.{refl, ap, ◌∙◌}
-use Prim.Native.Nat.{ℕ, ◌+◌, ◌-◌}
+use Prim.Native.Nat.{ℕ, ◌+◌}
 use native.Mathlib.Omega.{arith}
 use Rattle.profile_check.proofs.crowd.crowded_verdict.Goals as goal
 use Rattle.profile_check.proofs.crowd.crowded_verdict.Goals.{then-from-to+else-count-gt16, else-from-to}

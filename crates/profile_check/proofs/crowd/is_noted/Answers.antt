@@ -1,9 +1,8 @@
 -- `profile_check::crowd::is_noted` meets its contract. The loop's invariant: what is found so far is the answer for the first `j`. The measure is how many are left.
 use Rattle.profile_check.proofs.Scan.{found_next}
-use Rattle.model.specs.Lists.{any, among}
+use Rattle.model.specs.Lists.{among}
 use lib.Seq.{take_all}
 use mathlib.Core.Path.{refl, ap, ◌∙◌}
-use Prim.Native.Nat.{◌-◌}
 use native.Mathlib.Omega.{arith}
 use Rattle.profile_check.proofs.crowd.is_noted.Goals as goal
 
