@@ -22,7 +22,7 @@ use Rattle.model.specs.declared.DomainIndex.{DomainIndex}
 use Rattle.model.specs.Profile.{domain_at, domain_count, domain_start, domains}
 use Rattle.laws.proofs.Records.{domain_at_lem}
 use Rattle.list_include.specs.declared.state.State.{State}
-use Rattle.list_include.specs.declared.state.Waiting.TheVariants.{Nothing}
+use Rattle.std.specs.Prelude.{None}
 use Rattle.laws.specs.Exrs.{exrs_in, waiting_in, Stretch}
 use Rattle.laws.specs.Stops.{node_in, stretch_start}
 use Rattle.laws.proofs.Waiting.{empty_stretch}
@@ -91,9 +91,8 @@ first asn d =
       pinned = replicate 16 0;
       pins = replicate 16 (record { 0 = 0 });
       named = replicate 16 0;
-      mark = 0;
-      node = record { 0 = 0 };
-      waiting = Nothing;
+      pin = None;
+      waiting = None;
     }
 
 first_sound : (asn : ℕ) (d : DomainIndex) → SoundState (first asn d)
@@ -125,8 +124,7 @@ started s d x h e list =
           record {
             placed = λ i l. alone i l;
             behind = empty_stretch list 0 (omega arith);
-            mark-is = refl;
-            node-is = refl;
+            pin_is = refl;
             left_is = refl;
           };
     }

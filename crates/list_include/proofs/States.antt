@@ -1,74 +1,87 @@
 -- The state of a reading: what adding a domain makes of it, what a search of its domains says, and what naming a domain does by what was found.
 use mathlib.Core.Path.{◌≡◌, refl, sym, ap, ap₂, subst, ◌∙◌}
 use mathlib.Core.Logic.{⊎_elim}
-use mathlib.Core.Bool.{true, false}
+use mathlib.Core.Bool.{Bool, true, false, ◌||◌}
+use mir.Val.{bool_byte}
 use mathlib.Core.List.{List, [], ◌∷◌, ◌++◌, append-nil, map}
-use mathlib.Core.Option.{Option, none, some}
+use mathlib.Core.Option as Math
+use Rattle.std.specs.Prelude.{Option, None, Some, is_some, unwrap_or, Ok, Err}
 use Prim.Native.Nat.{ℕ, zero, suc, ◌+◌, ◌-◌, ◌≤◌, ◌<◌}
 use native.Mathlib.Nat.{zero-add, eq-or-lt_of_le}
 use native.Mathlib.Numerals.{add-one}
 use native.Mathlib.Omega.{arith}
-use lib.ListN.{length, get_or, set, length-set}
-use lib.Seq.{get_or-set_same, get_or-set_other}
+use lib.ListN.{length, get_or, take, set, length-set, length-map, get_or-map}
+use lib.Seq.{get_or-set_same, get_or-set_other, length-take-le}
+use Rattle.std.proofs.lemmas.List.{get_or-take}
+use Rattle.std.proofs.lemmas.Grind.{same_number_lists}
+use Rattle.std.proofs.lemmas.Bool.Decides.{nat_tests}
+use Rattle.std.specs.List.{list_any}
 use lib.Dec.{eqb}
-use Rattle.model.specs.Verdict.{Pass}
 use Rattle.model.specs.declared.DomainIndex.{DomainIndex}
 use Rattle.model.specs.declared.NodeAddress.{NodeAddress}
 use Rattle.model.specs.Lists.{count_from, among}
 use Rattle.model.specs.Sequence as M
 use Rattle.model.specs.WrittenList.{pin_if}
 use Rattle.model.specs.Calls.{pin_mark, pin_node}
-use Rattle.laws.proofs.Tests.{refuted}
-use Rattle.laws.proofs.Turns.{refuse_not_pass}
-use Rattle.laws.proofs.Lists.{map_agree, map-append, map_mem, mem-map, count_from_mem, mem_count_from, any_mem, mem_any}
-use Rattle.laws.proofs.Stops.{stops-length}
-use borrow.Author.Tests.{eq-eqb, ne_eqb, eqb-true, le-leb, lt-leb}
+use Rattle.laws.proofs.Lists.{map_agree, map-append, count_from_mem}
+use Rattle.model.specs.Path.{no_stop}
+use Rattle.laws.proofs.Stops.{stops-length, stop_at_lem}
+use borrow.Author.Tests.{eq-eqb, ne_eqb, le-leb, lt-leb}
 use Rattle.model.specs.declared.Refusal.{Refusal}
 use Rattle.laws.specs.Exrs.{exrs_in, waiting_in, Stretch}
 use Rattle.laws.specs.Stops.{stops_of, stretch_start, domain_in, node_in}
 use Rattle.laws.proofs.Waiting.{nothing-waits, exrs-waiting, empty_stretch}
-use Rattle.list_include.specs.declared.state.Waiting.{Waiting}
-use Rattle.list_include.specs.declared.state.Waiting.TheVariants as Variant
 use Rattle.list_include.specs.declared.state.State.{State}
-use Rattle.list_include.specs.declared.state.ReadStep.{ReadStep}
 use Rattle.list_include.specs.NamedDomain.{found_of}
-use Rattle.list_include.specs.Reading.{left_as, left_by, left_or, state_stop, state_stops, since, state_waits, state_of, Clean, SoundState, Placed, Standing, StateIs, Past, with_waiting, ReadAs, ReadStepIs, refused_by, name_found}
+use Rattle.list_include.specs.Reading.{left_by, left_or, pin_as, state_stop, state_stops, since, state_waits, state_of, Clean, SoundState, Placed, Standing, StateIs, Past, with_waiting, ReadAs, ReadStepIs, name_found}
 use Rattle.list_include.proofs.Hits.{count_snoc}
 
--- an entry constraint is what its mark and its node say
-pub pin-back : (p : Option ℕ) → pin_if (pin_mark p) (pin_node p) ≡ p
-pin-back none = refl
-pin-back (some n) = refl
+pub length-stops : (list : List ℕ) (st : State) → length (state_stops list st) ≡ st.count
+length-stops list st = stops-length list st.domains st.pinned st.pins st.named st.count
 
-clean-pin : (p : Option ℕ) → Clean (pin_mark p) (pin_node p)
-clean-pin none = (refl, refl)
-clean-pin (some n) = (refl, refl)
+-- an entry constraint is what its mark and its node say
+pin-back : (p : Math.Option ℕ) → pin_if (pin_mark p) (pin_node p) ≡ p
+pin-back Math.none = refl
+pin-back (Math.some n) = refl
+
+clean-pin : (p : Math.Option ℕ) → Clean (pin_mark p) (pin_node p)
+clean-pin Math.none = (refl, refl)
+clean-pin (Math.some n) = (refl, refl)
+
+-- its mark and its node are those that are written of one that waits, or 0 and 0
+pub marked : (pin : Option NodeAddress) (some : Bool) → some ≡ is_some pin → bool_byte some ≡ pin_mark (pin_as pin)
+marked None some e = ap bool_byte e
+marked (Some node) some e = ap bool_byte e
+
+pub noded : (pin : Option NodeAddress) (node : NodeAddress) → node ≡ unwrap_or pin (record { 0 = 0 }) → node.0 ≡ pin_node (pin_as pin)
+noded None node e = ap (λ (n : NodeAddress). n.0) e
+noded (Some other) node e = ap (λ (n : NodeAddress). n.0) e
 
 -- ---- adding a domain, named at an offset
 
-module _ (st : State) (at : ℕ) (d : DomainIndex) (sound : SoundState st) (room : st.count < 16) where
+module _ (st : State) (at : ℕ) (d : DomainIndex) (sound : SoundState st) (room : st.count < 16)
+    (m : ℕ) (node : NodeAddress) (mark-is : m ≡ pin_mark (pin_as st.pin)) (node-is : node.0 ≡ pin_node (pin_as st.pin)) where
   abbrev pub longer : State
   longer =
       record {
         asn = st.asn;
         count = st.count + 1;
         domains = set st.domains st.count d;
-        pinned = set st.pinned st.count st.mark;
-        pins = set st.pins st.count st.node;
+        pinned = set st.pinned st.count m;
+        pins = set st.pins st.count node;
         named = set st.named st.count at;
-        mark = 0;
-        node = record { 0 = 0 };
-        waiting = Variant.Nothing;
+        pin = None;
+        waiting = None;
       }
 
   at_domains : domain_in longer.domains st.count ≡ d.0
   at_domains = ap (λ (x : DomainIndex). x.0) (get_or-set_same st.domains st.count d (record { 0 = 0 }) (omega (arith, sound.domains-long)))
 
-  at_pinned : get_or longer.pinned st.count 0 ≡ st.mark
-  at_pinned = get_or-set_same st.pinned st.count st.mark 0 (omega (arith, sound.pinned_long))
+  at_pinned : get_or longer.pinned st.count 0 ≡ m
+  at_pinned = get_or-set_same st.pinned st.count m 0 (omega (arith, sound.pinned_long))
 
-  at_pins : node_in longer.pins st.count ≡ st.node.0
-  at_pins = ap (λ (x : NodeAddress). x.0) (get_or-set_same st.pins st.count st.node (record { 0 = 0 }) (omega (arith, sound.pins-long)))
+  at_pins : node_in longer.pins st.count ≡ node.0
+  at_pins = ap (λ (x : NodeAddress). x.0) (get_or-set_same st.pins st.count node (record { 0 = 0 }) (omega (arith, sound.pins-long)))
 
   at_named : get_or longer.named st.count 0 ≡ at
   at_named = get_or-set_same st.named st.count at 0 (omega (arith, sound.named-long))
@@ -100,13 +113,19 @@ module _ (st : State) (at : ℕ) (d : DomainIndex) (sound : SoundState st) (room
         let e : (i ≡ st.count) → ⊥ = λ q. omega arith in
         λ k. record {
           domain = (get_or-set_other st.domains st.count i d (record { 0 = 0 }) e k).0;
-          pin = pin_if (get_or-set_other st.pinned st.count i st.mark 0 e k) (get_or-set_other st.pins st.count i st.node (record { 0 = 0 }) e k).0;
+          pin = pin_if (get_or-set_other st.pinned st.count i m 0 e k) (get_or-set_other st.pins st.count i node (record { 0 = 0 }) e k).0;
           exrs = exrs_in list (old_start i (omega arith) k) (old_named i h k);
         }
 
+    new_mark : get_or longer.pinned st.count 0 ≡ pin_mark (M.pin_of waits)
+    new_mark = at_pinned ∙ mark-is ∙ ap pin_mark standing.pin_is
+
+    new_node : node_in longer.pins st.count ≡ pin_node (M.pin_of waits)
+    new_node = at_pins ∙ node-is ∙ ap pin_node standing.pin_is
+
     newest : state_stop list longer st.count ≡ M.stop_with d.0 waits
     newest =
-        let p = ap₂ pin_if (at_pinned ∙ standing.mark-is) (at_pins ∙ standing.node-is) ∙ pin-back (M.pin_of waits) in
+        let p = ap₂ pin_if new_mark new_node ∙ pin-back (M.pin_of waits) in
         let x = ap₂ (exrs_in list) new_start at_named ∙ sym (exrs-waiting list (since st) at) in
         λ k. M.stop (at_domains k) (p k) (x k)
 
@@ -131,12 +150,12 @@ module _ (st : State) (at : ℕ) (d : DomainIndex) (sound : SoundState st) (room
     cleaner : (i : ℕ) → i < longer.count → Clean (get_or longer.pinned i 0) (node_in longer.pins i)
     cleaner =
         last_or (λ (i : ℕ). Clean (get_or longer.pinned i 0) (node_in longer.pins i))
-        (subst (λ (x : ℕ). Clean x (node_in longer.pins st.count)) (sym (at_pinned ∙ standing.mark-is))
-        (subst (λ (x : ℕ). Clean (pin_mark (M.pin_of waits)) x) (sym (at_pins ∙ standing.node-is)) (clean-pin (M.pin_of waits))))
+        (subst (λ (x : ℕ). Clean x (node_in longer.pins st.count)) (sym new_mark)
+        (subst (λ (x : ℕ). Clean (pin_mark (M.pin_of waits)) x) (sym new_node) (clean-pin (M.pin_of waits))))
         (λ i l.
         let e : (i ≡ st.count) → ⊥ = λ q. omega arith in
-        subst (λ (x : ℕ). Clean x (node_in longer.pins i)) (sym (get_or-set_other st.pinned st.count i st.mark 0 e))
-        (subst (λ (x : ℕ). Clean (get_or st.pinned i 0) x) (sym (ap (λ (x : NodeAddress). x.0) (get_or-set_other st.pins st.count i st.node (record { 0 = 0 }) e))) (sound.clean i l)))
+        subst (λ (x : ℕ). Clean x (node_in longer.pins i)) (sym (get_or-set_other st.pinned st.count i m 0 e))
+        (subst (λ (x : ℕ). Clean (get_or st.pinned i 0) x) (sym (ap (λ (x : NodeAddress). x.0) (get_or-set_other st.pins st.count i node (record { 0 = 0 }) e))) (sound.clean i l)))
 
     placed_new : Placed list longer
     placed_new =
@@ -156,8 +175,8 @@ module _ (st : State) (at : ℕ) (d : DomainIndex) (sound : SoundState st) (room
                 some_domain_lem = omega arith;
                 most = omega arith;
                 domains-long = length-set st.domains st.count d ∙ sound.domains-long;
-                pinned_long = length-set st.pinned st.count st.mark ∙ sound.pinned_long;
-                pins-long = length-set st.pins st.count st.node ∙ sound.pins-long;
+                pinned_long = length-set st.pinned st.count m ∙ sound.pinned_long;
+                pins-long = length-set st.pins st.count node ∙ sound.pins-long;
                 named-long = length-set st.named st.count at ∙ sound.named-long;
                 clean = cleaner;
               };
@@ -165,32 +184,39 @@ module _ (st : State) (at : ℕ) (d : DomainIndex) (sound : SoundState st) (room
               record {
                 placed = placed_new;
                 behind = subst (λ (o : ℕ). Stretch list o at) (sym since_new) (empty_stretch list at standing.behind.inside);
-                mark-is = ap (λ (w : List M.Waiting). pin_mark (M.pin_of w)) (sym none_waits);
-                node-is = ap (λ (w : List M.Waiting). pin_node (M.pin_of w)) (sym none_waits);
+                pin_is = ap M.pin_of (sym none_waits);
                 left_is = ap left_by (sym none_waits);
               };
         }
 
 -- ---- a search of the domains so far
 
-module _ (list : List ℕ) (st : State) (d : ℕ) where
-  pub held : (i : ℕ) → i < st.count → domain_in st.domains i ≡ d → among d (M.domains_of (state_stops list st)) ≡ true
-  unfolding among stops_of
-  held i h e =
-      mem_any (eqb d)
-      (mem-map (λ (p : M.Stop). p.domain) (mem-map (state_stop list st) (mem_count_from 0 st.count i (omega arith) (omega arith))))
-      (eq-eqb d (domain_in st.domains i) (sym e))
+eqb_turned : (a b : ℕ) → eqb a b ≡ eqb b a
+eqb_turned a b = grind (arith, nat_tests)
 
-  pub unheld : ((i : ℕ) → i < st.count → domain_in st.domains i ≡ d → ⊥) → among d (M.domains_of (state_stops list st)) ≡ false
-  unfolding among stops_of
-  unheld h =
-      refuted (among d (M.domains_of (state_stops list st)))
-      (λ t.
-      let a = any_mem (eqb d) (M.domains_of (state_stops list st)) t in
-      let b = map_mem (λ (p : M.Stop). p.domain) (state_stops list st) a.1 in
-      let x = map_mem (state_stop list st) (count_from 0 st.count) b.1 in
-      let bound = (count_from_mem 0 st.count x.1).1 in
-      h x.0 (omega arith) (sym (ap (λ (p : M.Stop). p.domain) x.2) ∙ sym b.2 ∙ sym (eqb-true d a.0 a.2)))
+sought : (d : ℕ) (ds : List DomainIndex) → list_any (λ (x : DomainIndex). eqb x.0 d) ds ≡ list_any (eqb d) (map (λ (x : DomainIndex). x.0) ds)
+sought d [] = refl
+sought d (x ∷ ds) = ap₂ (λ (a b : Bool). a || b) (eqb_turned x.0 d) (sought d ds)
+
+module _ (list : List ℕ) (st : State) (sound : SoundState st) where
+  numbers : List ℕ
+  numbers = map (λ (x : DomainIndex). x.0) (take st.count st.domains)
+
+  sequence-domains : numbers ≡ M.domains_of (state_stops list st)
+  unfolding numbers
+  sequence-domains =
+      let long : length numbers ≡ st.count = length-map (take st.count st.domains) (λ (x : DomainIndex). x.0) ∙ length-take-le st.count st.domains (omega (arith, sound.domains-long, sound.most)) in
+      same_number_lists numbers (M.domains_of (state_stops list st))
+      (long ∙ sym (length-map (state_stops list st) (λ (p : M.Stop). p.domain) ∙ length-stops list st))
+      (λ k h.
+      let below : k < st.count = omega (arith, long) in
+      get_or-map (λ (x : DomainIndex). x.0) (take st.count st.domains) k (record { 0 = 0 })
+      ∙ ap (λ (x : DomainIndex). x.0) (get_or-take st.count st.domains k (record { 0 = 0 }) below)
+      ∙ sym (get_or-map (λ (p : M.Stop). p.domain) (state_stops list st) k no_stop ∙ ap (λ (p : M.Stop). p.domain) (stop_at_lem list st.domains st.pinned st.pins st.named st.count k below)))
+
+  pub held : (d : ℕ) → list_any (λ (x : DomainIndex). eqb x.0 d) (take st.count st.domains) ≡ among d (M.domains_of (state_stops list st))
+  unfolding among numbers
+  held d = sought d (take st.count st.domains) ∙ ap (list_any (eqb d)) sequence-domains
 
 -- ---- naming a domain by what was found
 
@@ -202,27 +228,22 @@ named-found at st (d ∷ e ∷ rest) = refl
 
 -- ---- steps
 
--- a refused step carries the refusal and nothing else
-pub step-refused
-    : {A : Type 0} (Holds : State → Type 0) (read : State → A) (r : ReadStep) (x : Refusal) (m : M.Reading A) → r ≡ refused_by x → m ≡ M.refused x
-    → ReadAs Holds read r m
-step-refused Holds read r x m e q =
-    subst (λ (s : ReadStep). ReadAs Holds read s m) (sym e)
-    (record {
-      means = sym q;
-      sound = λ p. absurd (refuse_not_pass x p);
-      none = λ y p. let same : x ≡ y = cc in ap refused_by same;
-    })
+-- a refused step
+pub step-refused : {A : Type 0} (Holds : State → Type 0) (read : State → A) (x : Refusal) (m : M.Reading A) → m ≡ M.refused x → ReadAs Holds read (Err x) m
+step-refused Holds read x m q = record { means = sym q; sound = λ st p. absurd (cc) }
 
 -- a step that passes
-pub step-passed
-    : {A : Type 0} (Holds : State → Type 0) (read : State → A) (st : State) (m : M.Reading A) → SoundState st → Holds st → m ≡ M.good (read st)
-    → ReadAs Holds read (record { verdict = Pass; state = st }) m
-step-passed Holds read st m s h q = record { means = sym q; sound = λ p. (s, h); none = λ x p. absurd (refuse_not_pass x (sym p)) }
+pub step-passed : {A : Type 0} (Holds : State → Type 0) (read : State → A) (st : State) (m : M.Reading A) → SoundState st → Holds st → m ≡ M.good (read st)
+    → ReadAs Holds read (Ok st) m
+step-passed Holds read st m s h q =
+    record {
+      means = sym q;
+      sound = λ x p. let same : st ≡ x = cc in subst (λ (y : State). SoundState y × Holds y) same (s, h);
+    }
 
 pub stepped-on
     : (list : List ℕ) (at : ℕ) (st : State) (next : M.State) (m : M.Reading M.State) → StateIs list at st next → m ≡ M.good next
-    → ReadStepIs list at (record { verdict = Pass; state = st }) m
+    → ReadStepIs list at (Ok st) m
 stepped-on list at st next m s q = step-passed (Standing list at) (state_of list at) st m s.sound s.standing (q ∙ sym (ap M.good s.means))
 
 module _ (at : ℕ) (st : M.State) (d : ℕ) where
@@ -244,9 +265,6 @@ module _ (at : ℕ) (st : M.State) (d : ℕ) where
       unfolding M.enter
       enter_new h = rw (ne_eqb d st.here away, new, lt-leb 16 (length st.sequence) h) refl
 
-pub length-stops : (list : List ℕ) (st : State) → length (state_stops list st) ≡ st.count
-length-stops list st = stops-length list st.domains st.pinned st.pins st.named st.count
-
 -- the same sequence is as sound with other things beside it
 pub still-sound
     : (st st' : State) → st.count ≡ st'.count → st.domains ≡ st'.domains → st.pinned ≡ st'.pinned → st.pins ≡ st'.pins → st.named ≡ st'.named
@@ -264,7 +282,7 @@ still-sound st st' c d m n o sound =
 
 -- another AS: all else stays
 pub with_system_lem : (list : List ℕ) (at : ℕ) (st : State) (asn : ℕ) → SoundState st → Standing list at st
-    → StateIs list at (record { asn = asn; count = st.count; domains = st.domains; pinned = st.pinned; pins = st.pins; named = st.named; mark = st.mark; node = st.node; waiting = st.waiting })
+    → StateIs list at (record { asn = asn; count = st.count; domains = st.domains; pinned = st.pinned; pins = st.pins; named = st.named; pin = st.pin; waiting = st.waiting })
     (M.with_system (state_of list at st) asn)
 unfolding stops_of
 with_system_lem list at st asn sound standing =
@@ -275,8 +293,7 @@ with_system_lem list at st asn sound standing =
           record {
             placed = standing.placed;
             behind = standing.behind;
-            mark-is = standing.mark-is;
-            node-is = standing.node-is;
+            pin_is = standing.pin_is;
             left_is = standing.left_is;
           };
     }
@@ -288,11 +305,10 @@ left_snoc [] at what = refl
 left_snoc (x ∷ w) at what = refl
 
 module _ (list : List ℕ) (at next : ℕ) (st : State) (what : M.Waits) (sound : SoundState st) (standing : Standing list at st) (past : Past list at next (M.waiting_for at what ∷ []) st)
-    (mark : ℕ) (node : NodeAddress) (waiting : Waiting)
-    (marked : mark ≡ pin_mark (M.pin_of (state_waits list at st ++ (M.waiting_for at what ∷ []))))
-    (noded : node.0 ≡ pin_node (M.pin_of (state_waits list at st ++ (M.waiting_for at what ∷ []))))
-    (left : left_as waiting ≡ left_or (left_as st.waiting) (M.left_over what) at) where
-  pub waits_more : StateIs list next (with_waiting st mark node waiting) (M.waits_too at (state_of list at st) what)
+    (pin : Option NodeAddress) (waiting : Option Refusal)
+    (pinned : pin_as pin ≡ M.pin_of (state_waits list at st ++ (M.waiting_for at what ∷ [])))
+    (left : waiting ≡ left_or st.waiting (M.left_over what) at) where
+  pub waits_more : StateIs list next (with_waiting st pin waiting) (M.waits_too at (state_of list at st) what)
   unfolding stops_of
   waits_more =
       record {
@@ -302,8 +318,7 @@ module _ (list : List ℕ) (at next : ℕ) (st : State) (what : M.Waits) (sound 
             record {
               placed = standing.placed;
               behind = past.behind;
-              mark-is = marked ∙ ap (λ (w : List M.Waiting). pin_mark (M.pin_of w)) (sym past.waits);
-              node-is = noded ∙ ap (λ (w : List M.Waiting). pin_node (M.pin_of w)) (sym past.waits);
+              pin_is = pinned ∙ ap M.pin_of (sym past.waits);
               left_is =
                   left
                   ∙ ap (λ (o : Option Refusal). left_or o (M.left_over what) at) standing.left_is
@@ -313,20 +328,20 @@ module _ (list : List ℕ) (at next : ℕ) (st : State) (what : M.Waits) (sound 
       }
 
 -- an entry constraint waits or not
-pub pin-waiting : (p : Option ℕ) (m : ℕ) → m ≡ pin_mark p → (m ≡ 0 → ⊥) → (other : ℕ) × (p ≡ some other)
-pin-waiting none m e d = absurd (d e)
-pin-waiting (some node) m e d = (node, refl)
+pub pin-waiting : (pin : Option NodeAddress) (p : Math.Option ℕ) → pin_as pin ≡ p → is_some pin ≡ true → (other : ℕ) × (p ≡ Math.some other)
+pin-waiting None p e t = absurd (cc)
+pin-waiting (Some node) p e t = (node.0, sym e)
 
-pub none_waiting : (p : Option ℕ) (m : ℕ) → m ≡ pin_mark p → m ≡ 0 → p ≡ none
-none_waiting none m e z = refl
-none_waiting (some node) m e z = absurd (omega (arith, e))
+pub none_waiting : (pin : Option NodeAddress) (p : Math.Option ℕ) → pin_as pin ≡ p → is_some pin ≡ false → p ≡ Math.none
+none_waiting None p e f = sym e
+none_waiting (Some node) p e f = absurd (cc)
 
-pub pin-last : (w : List M.Waiting) (at node : ℕ) → M.pin_of w ≡ none → M.pin_of (w ++ (M.waiting_for at (M.entry node) ∷ [])) ≡ some node
+pub pin-last : (w : List M.Waiting) (at node : ℕ) → M.pin_of w ≡ Math.none → M.pin_of (w ++ (M.waiting_for at (M.entry node) ∷ [])) ≡ Math.some node
 pin-last [] at node e = refl
 pin-last (x ∷ w) at node e = go x.what e (pin-last w at node)
   where
-    go : (what : M.Waits) → M.node_or what (M.pin_of w) ≡ none → (M.pin_of w ≡ none → M.pin_of (w ++ (M.waiting_for at (M.entry node) ∷ [])) ≡ some node)
-        → M.node_or what (M.pin_of (w ++ (M.waiting_for at (M.entry node) ∷ []))) ≡ some node
+    go : (what : M.Waits) → M.node_or what (M.pin_of w) ≡ Math.none → (M.pin_of w ≡ Math.none → M.pin_of (w ++ (M.waiting_for at (M.entry node) ∷ [])) ≡ Math.some node)
+        → M.node_or what (M.pin_of (w ++ (M.waiting_for at (M.entry node) ∷ []))) ≡ Math.some node
     go (M.entry n) e later = let z : ◌≡◌ {A = ℕ} 0 1 = cc in absurd (omega arith)
     go (M.exclusions b) e later = later e
 
@@ -345,8 +360,7 @@ goes_past list at next st m is past =
           record {
             placed = is.standing.placed;
             behind = past.behind;
-            mark-is = is.standing.mark-is ∙ ap (λ (w : List M.Waiting). pin_mark (M.pin_of w)) (sym same);
-            node-is = is.standing.node-is ∙ ap (λ (w : List M.Waiting). pin_node (M.pin_of w)) (sym same);
+            pin_is = is.standing.pin_is ∙ ap M.pin_of (sym same);
             left_is = is.standing.left_is ∙ ap left_by (sym same);
           };
     }

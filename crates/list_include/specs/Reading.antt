@@ -1,6 +1,6 @@
 -- What the code's state of a reading stands for, over the definitions of `model`.
-use Rattle.std.specs.Prelude.{◌≡◌, List, [], ◌∷◌, ◌++◌, ℕ, ◌-◌, ◌≤◌, ◌<◌, length, get_or, replicate, Err}
-use Rattle.std.proofs.Math.Option.{Option, none, some}
+use Rattle.std.specs.Prelude.{◌≡◌, List, [], ◌∷◌, ◌++◌, ℕ, ◌-◌, ◌≤◌, ◌<◌, length, get_or, Option, Some, None, Result, Ok, Err}
+use Rattle.std.proofs.Math.Option as Math
 use Rattle.model.specs.Verdict.{Pass}
 use Rattle.model.specs.declared.NodeAddress.{NodeAddress}
 use Rattle.model.specs.declared.Refusal.{Refusal}
@@ -10,14 +10,11 @@ use Rattle.model.specs.Sequence as M
 use Rattle.model.specs.WrittenList.{pin_if}
 use Rattle.laws.specs.Exrs.{waiting_in, Stretch}
 use Rattle.laws.specs.Stops.{domain_in, node_in, stretch_start, stop_in, stops_of}
-use Rattle.model.specs.Request.{provided}
 use Rattle.model.specs.Calls.{pin_mark, pin_node}
 use Rattle.list_subobject.specs.declared.item.Item.{Item}
 use Rattle.list_subobject.specs.Items.{named_of, ItemAt}
 use Rattle.list_include.specs.declared.named_domains.NamedDomain.{NamedDomain}
-use Rattle.list_include.specs.declared.state.Waiting.{Waiting}
 use Rattle.list_include.specs.declared.state.State.{State}
-use Rattle.list_include.specs.declared.state.ReadStep.{ReadStep}
 
 -- the subobject that the code has of a list
 abbrev pub subobject_of : List ℕ → Item → Subobject
@@ -29,18 +26,19 @@ pub record ItemHere (s : List ℕ) (it : Item) : Type 0 where
   pub there : ItemAt s it.offset it
 
 -- what is told of what waits if it is left over: the first of it
-abbrev pub left_as : Waiting → Option Refusal
-left_as Waiting.Nothing = none
-left_as (Waiting.First number offset) = some (record { number = number; place = offset })
-
 abbrev pub left_by : List M.Waiting → Option Refusal
-left_by [] = none
-left_by (w ∷ more) = some (record { number = M.left_over w.what; place = w.offset })
+left_by [] = None
+left_by (w ∷ more) = Some (record { number = M.left_over w.what; place = w.offset })
 
 -- with one more behind it
 abbrev pub left_or : Option Refusal → ℕ → ℕ → Option Refusal
-left_or none number at = some (record { number = number; place = at })
-left_or (some first) number at = some first
+left_or None number at = Some (record { number = number; place = at })
+left_or (Some first) number at = Some first
+
+-- the entry constraint that a node makes
+abbrev pub pin_as : Option NodeAddress → Math.Option ℕ
+pin_as None = Math.none
+pin_as (Some node) = Math.some node.0
 
 -- what a state holds stands in a list: a domain i of the sequence with its entry constraint and its EXRS, and the whole sequence
 abbrev pub state_stop : List ℕ → State → ℕ → M.Stop
@@ -89,9 +87,8 @@ Placed list st = (i : ℕ) → i < st.count → Stretch list (stretch_start st.n
 pub record Standing (list : List ℕ) (at : ℕ) (st : State) : Type 0 where
   pub placed : Placed list st
   pub behind : Stretch list (since st) at
-  pub mark-is : st.mark ≡ pin_mark (M.pin_of (state_waits list at st))
-  pub node-is : st.node.0 ≡ pin_node (M.pin_of (state_waits list at st))
-  pub left_is : left_as st.waiting ≡ left_by (state_waits list at st)
+  pub pin_is : pin_as st.pin ≡ M.pin_of (state_waits list at st)
+  pub left_is : st.waiting ≡ left_by (state_waits list at st)
 
 -- a sound state that stands for this one where the reading has come to an offset
 pub record StateIs (list : List ℕ) (at : ℕ) (st : State) (m : M.State) : Type 0 where
@@ -105,8 +102,8 @@ pub record Past (list : List ℕ) (at next : ℕ) (new : List M.Waiting) (st : S
   pub waits : state_waits list next st ≡ state_waits list at st ++ new
 
 -- a state with other things waiting
-abbrev pub with_waiting : State → ℕ → NodeAddress → Waiting → State
-with_waiting st mark node waiting =
+abbrev pub with_waiting : State → Option NodeAddress → Option Refusal → State
+with_waiting st pin waiting =
     record {
       asn = st.asn;
       count = st.count;
@@ -114,38 +111,22 @@ with_waiting st mark node waiting =
       pinned = st.pinned;
       pins = st.pins;
       named = st.named;
-      mark = mark;
-      node = node;
+      pin = pin;
       waiting = waiting;
     }
 
--- a refusal, with a state of no domains
-abbrev pub refused_by : Refusal → ReadStep
-refused_by x =
-    record {
-      verdict = Err x;
-      state =
-          record {
-            asn = 0;
-            count = 0;
-            domains = replicate 16 (record { 0 = 0 });
-            pinned = replicate 16 0;
-            pins = replicate 16 (record { 0 = 0 });
-            named = replicate 16 0;
-            mark = 0;
-            node = record { 0 = 0 };
-            waiting = Waiting.Nothing;
-          };
-    }
+-- what is read of the state, or the refusal
+abbrev pub read_of : {A : Type 0} → (State → A) → Result State Refusal → M.Reading A
+read_of read (Ok st) = M.good (read st)
+read_of read (Err x) = M.refused x
 
--- what is read of the state, a sound one of which something holds, or the refusal and nothing else
-pub record ReadAs {A : Type 0} (Holds : State → Type 0) (read : State → A) (r : ReadStep) (m : M.Reading A) : Type 0 where
-  pub means : provided r.verdict (M.good (read r.state)) ≡ m
-  pub sound : r.verdict ≡ Pass → SoundState r.state × Holds r.state
-  pub none : (x : Refusal) → r.verdict ≡ Err x → r ≡ refused_by x
+-- that is this reading; and the state is a sound one of which something holds
+pub record ReadAs {A : Type 0} (Holds : State → Type 0) (read : State → A) (r : Result State Refusal) (m : M.Reading A) : Type 0 where
+  pub means : read_of read r ≡ m
+  pub sound : (st : State) → r ≡ Ok st → SoundState st × Holds st
 
 -- a step: refused, or a state that stands for the next one where the reading has come to an offset
-abbrev pub ReadStepIs : List ℕ → ℕ → ReadStep → M.Reading M.State → Type 0
+abbrev pub ReadStepIs : List ℕ → ℕ → Result State Refusal → M.Reading M.State → Type 0
 ReadStepIs list at = ReadAs (Standing list at) (state_of list at)
 
 -- what naming a domain does, by what was found
@@ -155,5 +136,5 @@ name_found at st (NamedDomain.One d) = M.enter at st d.0
 name_found at st NamedDomain.Several = M.refuse 29 at
 
 -- the meaning of a list: refused, or a state whose sequence it is
-abbrev pub MeaningIs : List ℕ → ReadStep → M.Reading (List M.Stop) → Type 0
+abbrev pub MeaningIs : List ℕ → Result State Refusal → M.Reading (List M.Stop) → Type 0
 MeaningIs list = ReadAs (Placed list) (state_stops list)

@@ -14,33 +14,42 @@ ghost use Rattle.profile_records.specs.Domains.{WholeDomains, ShortAreas};
 ghost use Rattle.list_include.specs.Reading.{subobject_of, state_of, state_waits, SoundState, ItemHere, Standing, StateIs, ReadStepIs, MeaningIs};
 
 use crate::named_domains::{of_area, of_system};
-use crate::state::{ReadStep, State, Waiting, name_found, refused, wait_exrs, wait_for, with_asn};
+use crate::state::{State, name_found, wait_exrs, wait_for, with_asn};
 use list_subobject::item::{Item, Named};
 use list_subobject::walk::subobject_at;
-use model::{DomainIndex, NodeAddress, Refusal, Verdict};
+use model::{DomainIndex, NodeAddress, Refusal};
 use wire::u32_at;
 
 pub mod named_domains;
 pub mod state;
 
 // An AS becomes current; unless an area follows at once it names its only domain.
-fn read_system(profile: &[u8], st: State, at: usize, asn: u32, follows: bool) -> ReadStep
+fn read_system(
+    profile: &[u8],
+    st: State,
+    at: usize,
+    asn: u32,
+    follows: bool,
+) -> Result<State, Refusal>
     requires { SoundState st × (at ≤ 1024) × WholeDomains profile.now }
     ensures { (list : List ℕ) → Standing list at st → ReadStepIs list at result (read_system (reading_input profile.now) at (state_of list at st) asn follows) }
 {
     let next = with_asn(st, asn);
     if follows {
-        return ReadStep {
-            verdict: Verdict::Pass,
-            state: next,
-        };
+        return Ok(next);
     }
     let found = of_system(profile, asn);
     name_found(next, at, found)
 }
 
 // One subobject.
-fn read_item(profile: &[u8], list: &[u8], st: State, item: Item, follows: bool) -> ReadStep
+fn read_item(
+    profile: &[u8],
+    list: &[u8],
+    st: State,
+    item: Item,
+    follows: bool,
+) -> Result<State, Refusal>
     requires sound_state { SoundState st × (item.offset ≤ 1024) × WholeDomains profile.now × ShortAreas profile.now }
     requires item_here { ItemHere list.now item × Standing list.now item.offset st }
     ensures { ReadStepIs list.now item.next result (read_one (reading_input profile.now) (state_of list.now item.offset st) (subobject_of list.now item) follows) }
@@ -54,7 +63,7 @@ fn read_item(profile: &[u8], list: &[u8], st: State, item: Item, follows: bool) 
             let found = of_area(profile, st.asn, list, kind, start, count);
             name_found(st, at, found)
         }
-        Named::Exrs { start: _, count: _ } => wait_exrs(st, at),
+        Named::Exrs { start: _, count: _ } => Ok(wait_exrs(st, at)),
     }
 }
 
@@ -87,32 +96,24 @@ fn start(profile: &[u8], ingress: DomainIndex) -> State
         pinned: [0u8; 16],
         pins: [NodeAddress(0); 16],
         named: [0u16; 16],
-        mark: 0,
-        node: NodeAddress(0),
-        waiting: Waiting::Nothing,
+        pin: None,
+        waiting: None,
     }
 }
 
 // What is left waiting at the end is told: an entry constraint by 32, an EXRS by 42, of several the first.
-fn finished(st: State) -> ReadStep
+fn finished(st: State) -> Result<State, Refusal>
     requires { SoundState st }
     ensures { (list : List ℕ) (at : ℕ) → Standing list at st → MeaningIs list result (finish (state_of list at st) (state_waits list at st)) }
 {
-    let waiting = st.waiting;
-    match waiting {
-        Waiting::Nothing => ReadStep {
-            verdict: Verdict::Pass,
-            state: st,
-        },
-        Waiting::First { number, offset } => refused(Refusal {
-            number,
-            place: offset,
-        }),
+    match st.waiting {
+        None => Ok(st),
+        Some(left) => Err(left),
     }
 }
 
 // The whole list, subobject by subobject.
-pub fn read_list(profile: &[u8], ingress: DomainIndex, list: &[u8]) -> ReadStep
+pub fn read_list(profile: &[u8], ingress: DomainIndex, list: &[u8]) -> Result<State, Refusal>
     requires whole_domains { WholeDomains profile.now × ShortAreas profile.now × (ingress.0 < domain_count profile.now) }
     requires list_len_bound { (length list.now ≤ 1024) × (form_verdict Include list.now ≡ Pass) }
     ensures { MeaningIs list.now result (meaning (reading_input profile.now) ingress.0 list.now) }
@@ -121,14 +122,9 @@ pub fn read_list(profile: &[u8], ingress: DomainIndex, list: &[u8]) -> ReadStep
     let mut at: usize = 0;
     while at < list.len() {
         let item = subobject_at(list, at);
-        let next = item.next;
-        let stepped = read_item(profile, list, st, item, area_at(list, next));
-        let verdict = stepped.verdict;
-        if let Verdict::Refuse(r) = verdict {
-            return refused(r);
-        }
-        st = stepped.state;
-        at = next;
+        let follows = area_at(list, item.next);
+        st = read_item(profile, list, st, item, follows)?;
+        at = item.next;
     }
     finished(st)
 }

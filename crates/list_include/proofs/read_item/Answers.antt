@@ -1,12 +1,13 @@
 -- `list_include::read_item` meets its contract: each arm is a case of `read_one`, and the reading goes on past the subobject.
-use mathlib.Core.Path.{sym, ap, subst, ◌∙◌}
+use Rattle.std.specs.Prelude.{Ok}
+use mathlib.Core.Path.{refl, sym, ap, subst, ◌∙◌}
 use Rattle.model.specs.Sequence as M
 use Rattle.model.specs.Request.{reading_input}
 use Rattle.laws.specs.Exrs.{waits_as}
 use Rattle.list_subobject.specs.declared.item.Named.{Named}
 use Rattle.list_subobject.specs.Items.{named_of, BytesInside}
 use Rattle.list_include.specs.Reading.{state_of, ReadStepIs, name_found}
-use Rattle.list_include.proofs.States.{named-found}
+use Rattle.list_include.proofs.States.{named-found, stepped-on}
 use Rattle.list_include.proofs.Steps.{past-here, step_past}
 use Rattle.list_include.proofs.read_item.Goals as goal
 
@@ -59,5 +60,5 @@ returns-in-Exrs c =
     let it = a.item in
     let at = it.offset in
     let is = c.in-Exrs.is in
-    subst (λ (x : Named). ReadStepIs s it.next c.wait_exrs.result (M.read_one (reading_input a.profile.now) (state_of s at a.st) (record { offset = at; top = it.top; names = named_of s x }) a.follows)) (sym is)
-    (c.wait_exrs.ensures s _ it.next c.requires.item_here.1 (past-here s it c.requires.item_here.0 a.st c.requires.item_here.1 _ (ap (λ (x : Named). waits_as at (named_of s x)) is)))
+    subst (λ (x : Named). ReadStepIs s it.next (Ok c.wait_exrs.result) (M.read_one (reading_input a.profile.now) (state_of s at a.st) (record { offset = at; top = it.top; names = named_of s x }) a.follows)) (sym is)
+    (stepped-on s it.next _ _ _ (c.wait_exrs.ensures s _ it.next c.requires.item_here.1 (past-here s it c.requires.item_here.0 a.st c.requires.item_here.1 _ (ap (λ (x : Named). waits_as at (named_of s x)) is))) refl)

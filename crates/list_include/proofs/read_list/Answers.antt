@@ -3,20 +3,24 @@ use mathlib.Core.Path.{◌≡◌, refl, sym, ap, subst, ◌∙◌}
 use Prim.Native.Nat.{ℕ, ◌+◌}
 use native.Mathlib.Omega.{arith}
 use lib.ListN.{length}
-use Rattle.model.specs.Verdict.{Verdict, Pass}
+use borrow.Author.Rules.{rules}
+use Rattle.std.specs.Prelude.{Result, Err}
+use Rattle.model.specs.Verdict.{Pass}
+use Rattle.model.specs.declared.Refusal.{Refusal}
+use Rattle.list_include.specs.declared.state.State.{State}
 use Rattle.model.specs.declared.ListKind.TheVariants.{Include}
-use Rattle.model.specs.Request.{reading_input, provided}
+use Rattle.model.specs.Request.{reading_input}
 use Rattle.model.specs.Sequence as M
 use Rattle.laws.specs.Left.{form_left, subobjects_left}
 use Rattle.laws.proofs.Walk.{form-whole, right_here, right_next}
 use Rattle.model.specs.Subobject.{subobject_verdict, subobject_at, length_at}
 use Rattle.list_subobject.specs.Items.{ItemAt}
-use Rattle.list_include.specs.Reading.{subobject_of, state_stops, state_of, Placed, Standing, MeaningIs}
+use Rattle.list_include.specs.Reading.{read_of, subobject_of, state_stops, state_of, Placed, Standing, MeaningIs}
 use Rattle.list_subobject.proofs.FormLaws.{readable}
 use Rattle.list_include.proofs.States.{step-refused}
 use Rattle.list_include.proofs.Includes.{read_here, read-passed, read-refused, read-end, read-start}
 use Rattle.list_include.proofs.read_list.Goals as goal
-use Rattle.list_include.proofs.read_list.Goals.{After-read_item-stepped, After-subobject_at-item, At-loop-at, In-loop-at}
+use Rattle.list_include.proofs.read_list.Goals.{After-read_item, After-subobject_at-item, At-loop-at, In-loop-at}
 
 -- what the whole list means is what its rest means, read from the state at hand
 meant
@@ -28,28 +32,22 @@ meant c =
     c.loop-at.invariant.3 ∙ read-start (reading_input a.profile.now) a.list.now a.ingress.0 (state_of a.list.now 0 c.start-st.result) (c.start-st.ensures a.list.now).means
 
 -- what is known in a turn: the subobject is right, and the step taken is the one of `read_one`
-here
-    : (c : In-loop-at)
-    → let s = c.args.list.now in
-    subobject_verdict Include s (length s) c.loop-at.at ≡ Pass
+here : (c : In-loop-at) → let s = c.args.list.now in subobject_verdict Include s (length s) c.loop-at.at ≡ Pass
 here c = right_here Include c.args.list.now _ c.loop-at.at c.loop-at-test.true c.loop-at.invariant.2
 
 item-is : (c : After-subobject_at-item) → ItemAt c.args.list.now c.loop-at.at c.subobject_at-item.result
 item-is c = c.subobject_at-item.ensures
 
 stepped
-    : (c : After-read_item-stepped)
-    → provided c.read_item-stepped.result.verdict (M.good (state_of c.args.list.now c.subobject_at-item.result.next c.read_item-stepped.result.state))
+    : (c : After-read_item)
+    → read_of (state_of c.args.list.now c.subobject_at-item.result.next) c.read_item.result
     ≡ M.read_one (reading_input c.args.profile.now) (state_of c.args.list.now c.loop-at.at c.loop-at.st) (subobject_at c.args.list.now c.loop-at.at)
     (M.area_next (subobjects_left c.args.list.now (c.loop-at.at + length_at c.args.list.now c.loop-at.at)))
 stepped c =
-    c.read_item-stepped.ensures.means
-    ∙ ap (λ (o : ℕ). M.read_one (reading_input c.args.profile.now) (state_of c.args.list.now o c.loop-at.st) (subobject_of c.args.list.now c.subobject_at-item.result) c.area_at.result) (item-is (goal.at.After-read_item-stepped c).After-subobject_at-item).offset
-    ∙ read_here (reading_input c.args.profile.now) c.args.list.now c.loop-at.at (state_of c.args.list.now c.loop-at.at c.loop-at.st) c.subobject_at-item.result c.area_at.result
-    (item-is (goal.at.After-read_item-stepped c).After-subobject_at-item) c.area_at.ensures
-
-pub start-st-requires : goal.start-st-requires
-start-st-requires c = (c.requires.whole_domains.0, c.requires.whole_domains.2)
+    let is = item-is (goal.at.After-read_item c).After-subobject_at-item in
+    c.read_item.ensures.means
+    ∙ ap (λ (o : ℕ). M.read_one (reading_input c.args.profile.now) (state_of c.args.list.now o c.loop-at.st) (subobject_of c.args.list.now c.subobject_at-item.result) c.area_at-follows.result) is.offset
+    ∙ read_here (reading_input c.args.profile.now) c.args.list.now c.loop-at.at (state_of c.args.list.now c.loop-at.at c.loop-at.st) c.subobject_at-item.result c.area_at-follows.result is c.area_at-follows.ensures
 
 pub loop-at-init : goal.loop-at-init
 loop-at-init c =
@@ -64,42 +62,30 @@ loop-at-init c =
 pub subobject_at-item-requires : goal.subobject_at-item-requires
 subobject_at-item-requires c = readable Include c.args.list.now _ c.loop-at.at (omega arith) (here (goal.at.subobject_at-item-requires c).In-loop-at)
 
-pub area_at-requires : goal.area_at-requires
-area_at-requires c = tt
-
-pub read_item-stepped-requires : goal.read_item-stepped-requires
-read_item-stepped-requires c =
-    let is = item-is (goal.at.read_item-stepped-requires c).After-subobject_at-item in
+pub read_item-requires-clause-item_here : goal.read_item-requires-clause-item_here
+read_item-requires-clause-item_here c =
+    let is = item-is (goal.at.read_item-requires-clause-item_here c).After-subobject_at-item in
     let off = is.offset in
-    let test = c.loop-at-test.true in
-    let short = c.requires.list_len_bound.0 in
     let l = c.loop-at in
-    let s = c.args.list.now in record {
-      sound_state = (l.invariant.1, omega arith, c.requires.whole_domains.0, c.requires.whole_domains.1);
-      item_here = (
-        record {
-          right = subst (λ (o : ℕ). subobject_verdict Include s (length s) o ≡ Pass) (sym off) (here (goal.at.read_item-stepped-requires c).In-loop-at);
-          there = subst (λ (o : ℕ). ItemAt s o c.subobject_at-item.result) (sym off) is;
-        },
-        subst (λ (o : ℕ). Standing s o l.st) (sym off) l.invariant.4,
-      );
-    }
+    let s = c.args.list.now in (
+      record {
+        right = subst (λ (o : ℕ). subobject_verdict Include s (length s) o ≡ Pass) (sym off) (here (goal.at.read_item-requires-clause-item_here c).In-loop-at);
+        there = subst (λ (o : ℕ). ItemAt s o c.subobject_at-item.result) (sym off) is;
+      },
+      subst (λ (o : ℕ). Standing s o l.st) (sym off) l.invariant.4,
+    )
 
-pub returns-in-Refuse : goal.returns-in-Refuse
-returns-in-Refuse c =
+pub returns-in_err-st : goal.returns-in_err-st
+returns-in_err-st c =
     let a = c.args in
     let l = c.loop-at in
-    step-refused (Placed a.list.now) (state_stops a.list.now) _ _ _ c.refused.ensures
-    (sym (meant (goal.at.returns-in-Refuse c).At-loop-at)
-    ∙ read-refused (reading_input a.profile.now) a.list.now l.at (state_of a.list.now l.at l.st) c.loop-at-test.true l.invariant.2 _
-    (sym (ap (λ (v : Verdict). provided v (M.good (state_of a.list.now c.subobject_at-item.result.next c.read_item-stepped.result.state))) c.in-Refuse.is) ∙ stepped (goal.at.returns-in-Refuse c).After-read_item-stepped))
-
-pub loop-at-smaller : goal.loop-at-smaller
-loop-at-smaller c =
-    let is = item-is (goal.at.loop-at-smaller c).After-subobject_at-item in
-    let far = is.further in
-    let inside = is.inside in
-    omega arith
+    let x = c.in_err-st.field-0.0 in
+    let same : c.from_residual.result ≡ Err x = search rules in
+    subst (λ (r : Result State Refusal). MeaningIs a.list.now r (M.meaning (reading_input a.profile.now) a.ingress.0 a.list.now)) (sym same)
+    (step-refused (Placed a.list.now) (state_stops a.list.now) x _
+    (sym (meant (goal.at.returns-in_err-st c).At-loop-at)
+    ∙ read-refused (reading_input a.profile.now) a.list.now l.at (state_of a.list.now l.at l.st) c.loop-at-test.true l.invariant.2 x
+    (sym (ap (read_of (state_of a.list.now c.subobject_at-item.result.next)) c.in_err-st.was) ∙ stepped (goal.at.returns-in_err-st c).After-read_item)))
 
 pub loop-at-preserved : goal.loop-at-preserved
 loop-at-preserved c =
@@ -110,21 +96,17 @@ loop-at-preserved c =
     let R = reading_input a.profile.now in
     let s = a.list.now in
     let next = c.subobject_at-item.result.next in
-    let after = c.read_item-stepped.result.state in
-    let on : M.good (state_of s next after) ≡ M.read_one R (state_of s l.at l.st) (subobject_at s l.at) (M.area_next (subobjects_left s (l.at + length_at s l.at))) =
-    sym (ap (λ (v : Verdict). provided v (M.good (state_of s next after))) c.in_default.is) ∙ stepped (goal.at.loop-at-preserved c).After-read_item-stepped in
-    let kept = c.read_item-stepped.ensures.sound c.in_default.is in (
+    let on : M.good (state_of s next c.in_ok-st.st) ≡ M.read_one R (state_of s l.at l.st) (subobject_at s l.at) (M.area_next (subobjects_left s (l.at + length_at s l.at))) =
+    sym (ap (read_of (state_of s next)) c.in_ok-st.was) ∙ stepped (goal.at.loop-at-preserved c).After-read_item in
+    let kept = c.read_item.ensures.sound c.in_ok-st.st c.in_ok-st.was in (
       inside,
       kept.0,
       subst (λ (n : ℕ). form_left Include s n ≡ Pass) (sym is.next) (right_next Include s (length s) l.at c.loop-at-test.true l.invariant.2),
-      ap (λ (n : ℕ). M.read_all R (subobjects_left s n) (state_of s next after)) is.next
+      ap (λ (n : ℕ). M.read_all R (subobjects_left s n) (state_of s next c.in_ok-st.st)) is.next
           ∙ sym (read-passed R s l.at (state_of s l.at l.st) c.loop-at-test.true l.invariant.2 _ on)
           ∙ l.invariant.3,
       kept.1,
     )
-
-pub finished-requires : goal.finished-requires
-finished-requires c = c.loop-at.invariant.1
 
 pub returns : goal.returns
 returns c =

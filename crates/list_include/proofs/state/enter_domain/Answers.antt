@@ -1,38 +1,39 @@
 -- `list_include::state::enter_domain` meets its contract: the tests are those of `enter`, in its order.
-use mathlib.Core.Path.{refl, sym, ◌∙◌}
+use mathlib.Core.Path.{refl, sym, ap, ◌∙◌}
 use native.Mathlib.Omega.{arith}
+use borrow.Author.Tests.{eqb-true, eqb-false}
+use Rattle.model.specs.Sequence as M
 use Rattle.list_include.specs.Reading.{state_of, Standing}
 use Rattle.list_include.proofs.States.{step-refused, stepped-on, enter_here, enter-back, enter-full, enter_new, length-stops}
 use Rattle.list_include.proofs.state.enter_domain.Goals as goal
 
-pub returns-then-d-here : goal.returns-then-d-here
-returns-then-d-here c =
+pub returns-then-eq : goal.returns-then-eq
+returns-then-eq c =
     let a = c.args in
-    let pre = c.requires in
-    λ list standing. stepped-on list a.at a.st _ _ (record { means = refl; sound = pre.0; standing = standing }) (enter_here a.at (state_of list a.at a.st) a.d.0 c.if-d-here.true)
+    λ list standing.
+    stepped-on list a.at a.st _ _ (record { means = refl; sound = c.requires.0; standing = standing })
+    (enter_here a.at (state_of list a.at a.st) a.d.0 (eqb-true _ _ (sym c.eq.ensures ∙ c.if-eq.true)))
 
 pub returns-then-holds : goal.returns-then-holds
 returns-then-holds c =
     let a = c.args in
-    let pre = c.requires in
     λ list standing.
-    step-refused (Standing list a.at) (state_of list a.at) _ _ _ c.refused_at.ensures
-    (enter-back a.at (state_of list a.at a.st) a.d.0 c.if-d-here.false (sym (c.holds.ensures list) ∙ c.if-holds.true))
+    step-refused (Standing list a.at) (state_of list a.at) _ _
+    (enter-back a.at (state_of list a.at a.st) a.d.0 (eqb-false _ _ (sym c.eq.ensures ∙ c.if-eq.false)) (sym (c.holds.ensures list) ∙ c.if-holds.true) ∙ ap M.refused (sym c.refused_at.ensures))
 
 pub returns-then-count-ge16 : goal.returns-then-count-ge16
 returns-then-count-ge16 c =
     let a = c.args in
-    let pre = c.requires in
     let full = c.if-count-ge16.true in
     λ list standing.
-    step-refused (Standing list a.at) (state_of list a.at) _ _ _ c.refused_at-then-count-ge16.ensures
-    (enter-full a.at (state_of list a.at a.st) a.d.0 c.if-d-here.false (sym (c.holds.ensures list) ∙ c.if-holds.false) (omega (arith, length-stops list a.st)))
+    step-refused (Standing list a.at) (state_of list a.at) _ _
+    (enter-full a.at (state_of list a.at a.st) a.d.0 (eqb-false _ _ (sym c.eq.ensures ∙ c.if-eq.false)) (sym (c.holds.ensures list) ∙ c.if-holds.false) (omega (arith, length-stops list a.st))
+    ∙ ap M.refused (sym c.refused_at-then-count-ge16.ensures))
 
 pub returns : goal.returns
 returns c =
     let a = c.args in
-    let pre = c.requires in
     let room = c.if-count-ge16.false in
     λ list standing.
     stepped-on list a.at c.add.result _ _ (c.add.ensures list standing)
-    (enter_new a.at (state_of list a.at a.st) a.d.0 c.if-d-here.false (sym (c.holds.ensures list) ∙ c.if-holds.false) (omega (arith, length-stops list a.st)))
+    (enter_new a.at (state_of list a.at a.st) a.d.0 (eqb-false _ _ (sym c.eq.ensures ∙ c.if-eq.false)) (sym (c.holds.ensures list) ∙ c.if-holds.false) (omega (arith, length-stops list a.st)))
