@@ -39,12 +39,13 @@ pub fn nothing_in(round: Round) -> SearchResult
 pub fn found_in(round: Round, least: u32, addresses: [u32; 17]) -> SearchResult
     ensures { result ≡ found_in round least addresses }
 {
+    let path = FoundPath {
+        total: least,
+        addresses,
+    };
     SearchResult {
         round,
-        found: Some(FoundPath {
-            total: least,
-            addresses,
-        }),
+        found: Some(path),
     }
 }
 
