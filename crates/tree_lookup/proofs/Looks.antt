@@ -9,8 +9,7 @@ use native.Mathlib.Omega.{arith}
 use lib.ListN.{get_or}
 use lib.Dec.{eqb, ltb}
 use borrow.Author.Tests.{eq-eqb, ne_eqb, lt-ltb, le-ltb}
-use Rattle.tree_lookup.specs.declared.Place.{Place}
-use Rattle.tree_lookup.specs.declared.Place.TheVariants.{At}
+use Rattle.std.specs.Prelude.{Option, Some}
 use Rattle.tree_lookup.specs.declared.LookUp.{LookUp}
 use Rattle.tree_lookup.specs.LookUp.{unseen, counted, seen_if, side_if, look_if, middle_of, halving}
 
@@ -35,7 +34,7 @@ look_none (suc k) xs low high v h =
 pub after_one : (n : ℕ) (r : LookUp) → after n (counted r) ≡ after (suc n) r
 after_one n r = let e : n + suc r.looks ≡ suc n + r.looks = omega arith in ap (λ (m : ℕ). record { place = r.place; looks = m }) e
 
-pub after_none : (n : ℕ) (p : Place) → after n (record { place = p; looks = 0 }) ≡ record { place = p; looks = n }
+pub after_none : (n : ℕ) (p : Option ℕ) → after n (record { place = p; looks = 0 }) ≡ record { place = p; looks = n }
 after_none n p = ap (λ (m : ℕ). record { place = p; looks = m }) (add-zero n)
 
 pub none_before : (r : LookUp) → r ≡ after 0 r
@@ -57,7 +56,7 @@ module _ (k : ℕ) (xs : List ℕ) (low high v : ℕ) (some : low < high) where
   unfolding halving
   one_look = ap (λ (b : Bool). look_if b (seen_if (eqb here v) middle (side (ltb here v)))) (lt-ltb low high some)
 
-  pub look_hit : here ≡ v → halving (suc k) xs low high v ≡ counted (record { place = At middle; looks = 0 })
+  pub look_hit : here ≡ v → halving (suc k) xs low high v ≡ counted (record { place = Some middle; looks = 0 })
   look_hit e = one_look ∙ ap (λ (b : Bool). seen_if b middle (side (ltb here v))) (eq-eqb here v e)
 
   look_other : (here ≡ v → ⊥) → (b : Bool) → ltb here v ≡ b → halving (suc k) xs low high v ≡ counted (side b)

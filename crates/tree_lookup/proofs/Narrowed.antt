@@ -16,7 +16,7 @@ use Rattle.laws.proofs.Tests.{decide}
 use Rattle.laws.proofs.Ascending.{sorted_get_or}
 use Rattle.laws.proofs.Ranges.{slice_at}
 use Rattle.laws.proofs.Halving.{Ascends, Bracket, Halves, bracket_start, bracket-halves}
-use Rattle.tree_lookup.specs.declared.Place.TheVariants.{At, Nowhere}
+use Rattle.std.specs.Prelude.{Some, None}
 use Rattle.tree_lookup.specs.LookUp.{Part, Found, middle_of, halving}
 use Rattle.tree_lookup.proofs.Walked.{walked_at, walked_none}
 use Rattle.tree_lookup.proofs.Looks.{most, after, after_one, after_none, none_before, look_none, look_hit, look_above, look_below}
@@ -33,7 +33,7 @@ pub record Narrowed (xs : List ℕ) (at count v low high looks : ℕ) : Type 0 w
 pub record Turn (xs : List ℕ) (at count v low high looks : ℕ) : Type 0 where
   pub spare : looks < 5
   pub inside : middle_of low high < at + count
-  pub hit : get_or xs (middle_of low high) 0 ≡ v → Found xs at count v (record { place = At (middle_of low high); looks = suc looks })
+  pub hit : get_or xs (middle_of low high) 0 ≡ v → Found xs at count v (record { place = Some (middle_of low high); looks = suc looks })
   pub above : get_or xs (middle_of low high) 0 < v → Narrowed xs at count v (middle_of low high + 1) high (suc looks)
   pub below : v < get_or xs (middle_of low high) 0 → Narrowed xs at count v low (middle_of low high) (suc looks)
 
@@ -60,7 +60,7 @@ module _ (xs : List ℕ) (at count v : ℕ) (part : Part xs at count) where
       }
 
   -- where nothing is left, the address isn't there
-  pub narrowed_end : (low high looks : ℕ) → Narrowed xs at count v low high looks → high ≤ low → Found xs at count v (record { place = Nowhere; looks = looks })
+  pub narrowed_end : (low high looks : ℕ) → Narrowed xs at count v low high looks → high ≤ low → Found xs at count v (record { place = None; looks = looks })
   narrowed_end low high looks n h =
       let k = n.bracket in
       let order = k.order in
@@ -72,7 +72,7 @@ module _ (xs : List ℕ) (at count v : ℕ) (part : Part xs at count) where
       (decide (ltb j low)) in
       record {
         as_walked = sym (walked_none xs (at + count) v part.inside at (omega arith) none);
-        by_halving = sym (n.so_far ∙ ap (after looks) (look_none n.left xs low high v h) ∙ after_none looks Nowhere);
+        by_halving = sym (n.so_far ∙ ap (after looks) (look_none n.left xs low high v h) ∙ after_none looks None);
         in_five = omega (arith, n.in_all);
       }
 
@@ -108,7 +108,7 @@ module _ (xs : List ℕ) (at count v : ℕ) (part : Part xs at count) where
     halves : Halves (λ (i : ℕ). get_or xs i 0) at (at + count) v (suc v) low high middle
     halves = bracket-halves (λ (i : ℕ). get_or xs i 0) at (at + count) v (suc v) low high middle ascends n.bracket (omega arith) (omega arith)
 
-    hit : get_or xs middle 0 ≡ v → Found xs at count v (record { place = At middle; looks = suc looks })
+    hit : get_or xs middle 0 ≡ v → Found xs at count v (record { place = Some middle; looks = suc looks })
     hit e =
         record {
           as_walked =
@@ -118,8 +118,8 @@ module _ (xs : List ℕ) (at count v : ℕ) (part : Part xs at count) where
               sym
               (so_far
               ∙ ap (after looks) (look_hit rest xs low high v some e)
-              ∙ after_one looks (record { place = At middle; looks = 0 })
-              ∙ after_none (suc looks) (At middle));
+              ∙ after_one looks (record { place = Some middle; looks = 0 })
+              ∙ after_none (suc looks) (Some middle));
           in_five = omega (arith, in_all);
         }
 

@@ -8,12 +8,12 @@ use native.Mathlib.Omega.{arith}
 use lib.ListN.{length, get_or}
 use lib.Seq.{slice, slice_empty, slice-cons}
 use borrow.Author.Tests.{eq-eqb, ne_eqb}
-use Rattle.tree_lookup.specs.declared.Place.TheVariants.{At, Nowhere}
+use Rattle.std.specs.Prelude.{Some, None}
 use Rattle.tree_lookup.specs.LookUp.{place_if, place_in}
 
 module _ (xs : List ℕ) (high v : ℕ) (inside : high ≤ length xs) where
   -- one step of the walk
-  walk_hit : (i : ℕ) → i < high → get_or xs i 0 ≡ v → place_in i (slice i high xs) v ≡ At i
+  walk_hit : (i : ℕ) → i < high → get_or xs i 0 ≡ v → place_in i (slice i high xs) v ≡ Some i
   unfolding place_in
   walk_hit i h e =
       ap (λ (l : List ℕ). place_in i l v) (slice-cons i high xs 0 h inside)
@@ -25,7 +25,7 @@ module _ (xs : List ℕ) (high v : ℕ) (inside : high ≤ length xs) where
       ap (λ (l : List ℕ). place_in i l v) (slice-cons i high xs 0 h inside)
       ∙ ap (λ (b : Bool). place_if b i (place_in (suc i) (slice (suc i) high xs) v)) (ne_eqb (get_or xs i 0) v e)
 
-  walk_end : place_in high (slice high high xs) v ≡ Nowhere
+  walk_end : place_in high (slice high high xs) v ≡ None
   unfolding place_in
   walk_end = ap (λ (l : List ℕ). place_in high l v) (slice_empty high xs)
 
@@ -38,8 +38,8 @@ module _ (xs : List ℕ) (high v : ℕ) (inside : high ≤ length xs) where
       walk_on low (omega arith) (none low (omega arith) (omega arith)) ∙ walk_past n (suc low) i (omega arith) h (λ j l u. none j (omega arith) u)
 
   -- found, or not
-  pub walked_at : (low i : ℕ) → low ≤ i → i < high → ((j : ℕ) → low ≤ j → j < i → get_or xs j 0 ≡ v → ⊥) → get_or xs i 0 ≡ v → place_in low (slice low high xs) v ≡ At i
+  pub walked_at : (low i : ℕ) → low ≤ i → i < high → ((j : ℕ) → low ≤ j → j < i → get_or xs j 0 ≡ v → ⊥) → get_or xs i 0 ≡ v → place_in low (slice low high xs) v ≡ Some i
   walked_at low i l u none e = walk_past (i - low) low i (omega arith) (omega arith) none ∙ walk_hit i u e
 
-  pub walked_none : (low : ℕ) → low ≤ high → ((j : ℕ) → low ≤ j → j < high → get_or xs j 0 ≡ v → ⊥) → place_in low (slice low high xs) v ≡ Nowhere
+  pub walked_none : (low : ℕ) → low ≤ high → ((j : ℕ) → low ≤ j → j < high → get_or xs j 0 ≡ v → ⊥) → place_in low (slice low high xs) v ≡ None
   walked_none low l none = walk_past (high - low) low high (omega arith) (omega arith) none ∙ walk_end

@@ -1,10 +1,8 @@
 -- Where an entry node stands in one domain's part of the tree. Document 02, [2]: halving gives the same answer as a walk from the start, found or not, for every
 -- address and every strictly ascending part of up to 16 entries, and five looks at entries settle it.
-use Rattle.std.specs.Prelude.{◌≡◌, Bool, true, false, List, [], ◌∷◌, ℕ, zero, suc, ◌+◌, ◌-◌, ◌/◌, ◌≤◌, ◌<◌, length, get_or, eqb, ltb}
+use Rattle.std.specs.Prelude.{◌≡◌, Bool, true, false, List, [], ◌∷◌, ℕ, zero, suc, ◌+◌, ◌-◌, ◌/◌, ◌≤◌, ◌<◌, length, get_or, eqb, ltb, Option, Some, None}
 use Rattle.std.proofs.Math.Seq.{slice}
 use Rattle.laws.specs.Sorted.{Sorted}
-use Rattle.tree_lookup.specs.declared.Place.{Place}
-use Rattle.tree_lookup.specs.declared.Place.TheVariants.{At, Nowhere}
 use Rattle.tree_lookup.specs.declared.LookUp.{LookUp}
 
 -- one domain's part of the tree: `count` entries from place `at` on, at most 16, their addresses strictly ascending
@@ -14,18 +12,18 @@ pub record Part (addresses : List ℕ) (at count : ℕ) : Type 0 where
   pub ascending : Sorted ◌<◌ (slice at (at + count) addresses)
 
 -- the walk from the start: where an address stands in a list whose first element has place `at`
-abbrev pub place_if : Bool → ℕ → Place → Place
-place_if true at other = At at
+abbrev pub place_if : Bool → ℕ → Option ℕ → Option ℕ
+place_if true at other = Some at
 place_if false at other = other
 
-unfoldable pub place_in : ℕ → List ℕ → ℕ → Place
-place_in at [] v = Nowhere
+unfoldable pub place_in : ℕ → List ℕ → ℕ → Option ℕ
+place_in at [] v = None
 place_in at (a ∷ nodes) v = place_if (eqb a v) at (place_in (suc at) nodes v)
 
 -- ---- halving, and its looks
 
 abbrev pub unseen : LookUp
-unseen = record { place = Nowhere; looks = 0 }
+unseen = record { place = None; looks = 0 }
 
 -- one look before what is left of the search
 abbrev pub counted : LookUp → LookUp
@@ -33,7 +31,7 @@ counted rest = record { place = rest.place; looks = suc rest.looks }
 
 -- after a look: it is the address looked for, or the search goes on, above or below
 abbrev pub seen_if : Bool → ℕ → LookUp → LookUp
-seen_if true middle rest = record { place = At middle; looks = 1 }
+seen_if true middle rest = record { place = Some middle; looks = 1 }
 seen_if false middle rest = counted rest
 
 abbrev pub side_if : Bool → LookUp → LookUp → LookUp

@@ -6,17 +6,10 @@ ghost use Rattle.tree_lookup.specs.LookUp.{Part, Found};
 
 use model::NodeAddress;
 
-// Where an address stands.
-#[derive(Clone, Copy)]
-pub enum Place {
-    At(usize),
-    Nowhere,
-}
-
-// The answer, and how many entries were looked at for it.
+// Where an address stands, and how many entries were looked at to find it.
 #[derive(Clone, Copy)]
 pub struct LookUp {
-    pub place: Place,
+    pub place: Option<usize>,
     pub looks: u32,
 }
 
@@ -43,29 +36,25 @@ pub fn find_entry(addresses: &[u32], at: usize, count: usize, node: NodeAddress)
     requires { Part addresses.now at count }
     ensures { Found addresses.now at count node.0 result }
 {
-    let v = node.0;
     let mut low = at;
     let mut high = at + count;
     let mut looks: u32 = 0;
     while low < high {
         let middle = low + (high - low) / 2;
         let seen = look(addresses, middle, looks);
-        let here = seen.address;
+        let here = NodeAddress(seen.address);
         looks = seen.looks;
-        if here == v {
+        if here == node {
             return LookUp {
-                place: Place::At(middle),
+                place: Some(middle),
                 looks,
             };
         }
-        if here < v {
+        if here < node {
             low = middle + 1;
         } else {
             high = middle;
         }
     }
-    LookUp {
-        place: Place::Nowhere,
-        looks,
-    }
+    LookUp { place: None, looks }
 }

