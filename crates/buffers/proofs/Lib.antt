@@ -1,4 +1,3 @@
 -- What the proofs of several functions share, here and in the crates that write buffers.
 pub mod Places
 pub mod Copies
-pub mod Loops

@@ -10,10 +10,7 @@ ghost use Rattle.buffers.specs.Placed.{Put};
 pub fn lesser(a: usize, b: usize) -> usize
     ensures { result ≡ min a b }
 {
-    if a <= b {
-        return a;
-    }
-    b
+    a.min(b)
 }
 
 // The first `n` of some bytes, into a buffer from a place on; the answer is the place after them.
@@ -21,11 +18,7 @@ pub fn put_bytes(out: &mut [u8], at: usize, bytes: &[u8], n: usize) -> usize
     requires { (at + n ≤ length out.old) × (n ≤ length bytes.now) }
     ensures { Put at (take n bytes.now) out.old out.new result }
 {
-    let mut j = 0;
-    while j < n {
-        out[at + j] = bytes[j];
-        j += 1;
-    }
+    out[at..at + n].copy_from_slice(&bytes[..n]);
     at + n
 }
 
@@ -34,11 +27,7 @@ pub fn put_numbers(out: &mut [u32], at: usize, values: &[u32], n: usize)
     requires { (at + n ≤ length out.old) × (n ≤ length values.now) }
     ensures { out.new ≡ paste out.old at values.now n }
 {
-    let mut j = 0;
-    while j < n {
-        out[at + j] = values[j];
-        j += 1;
-    }
+    out[at..at + n].copy_from_slice(&values[..n]);
 }
 
 // The first `n` of some numbers over the start of a buffer.
