@@ -115,9 +115,9 @@ with_waiting st pin waiting =
       waiting = waiting;
     }
 
--- what is read of the state, or the refusal
-abbrev pub read_of : {A : Type 0} → (State → A) → Result State Refusal → M.Reading A
-read_of read (Ok st) = M.good (read st)
+-- what is read of a result, or its refusal
+abbrev pub read_of : {S A : Type 0} → (S → A) → Result S Refusal → M.Reading A
+read_of read (Ok s) = M.good (read s)
 read_of read (Err x) = M.refused x
 
 -- that is this reading; and the state is a sound one of which something holds

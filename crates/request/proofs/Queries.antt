@@ -1,6 +1,6 @@
 -- What a request's sequence is by its checks, and that a query with that sequence is ready for a search.
-use Rattle.std.specs.Prelude.{Err}
-use mathlib.Core.Path.{◌≡◌, refl, sym, ap, subst}
+use Rattle.std.specs.Prelude.{Ok, Err}
+use mathlib.Core.Path.{◌≡◌, refl, sym, ap, subst, ◌∙◌}
 use mathlib.Core.List.{List}
 use Prim.Native.Nat.{ℕ, ◌<◌}
 use native.Mathlib.Omega.{arith}
@@ -14,7 +14,6 @@ use Rattle.model.specs.Sequence.{refused, good, meaning}
 use Rattle.model.specs.Request.{Request, reading_input, provided, request_verdict, sequence_of}
 use Rattle.laws.specs.Lists.{lists_of}
 use Rattle.laws.specs.Stops.{stops_of}
-use Rattle.laws.proofs.Turns.{refuse_not_pass}
 use Rattle.laws.proofs.Lists.{mem-map, mem_count_from}
 use Rattle.laws.proofs.Records.{length-domains}
 use Rattle.laws.proofs.AcceptedRequest.{PassedRequest}
@@ -22,10 +21,9 @@ use Rattle.laws.proofs.SequenceDomains.{meaning-different, meaning-inside}
 use Rattle.list_include.specs.declared.state.State.{State}
 use Rattle.list_include.specs.Reading as R
 use Rattle.request.specs.declared.Asked.{Asked}
-use Rattle.request.specs.declared.CheckedRequest.{CheckedRequest}
 use Rattle.request.specs.declared.Query.{Query}
 use Rattle.request.specs.Query.{query_domain, query_stop, query_stops, Ready}
-use Rattle.request.specs.CheckedRequest.{request_for, refused_by, RequestIs}
+use Rattle.request.specs.CheckedRequest.{request_for, QueryIs, RequestIs}
 
 module _ (req : Request) where
   pub sequence-refused : (r : Refusal) → request_verdict req ≡ Err r → sequence_of req ≡ refused r
@@ -38,20 +36,9 @@ module _ (req : Request) where
 
 -- a refusal of the checks or of the include list
 pub refused-is
-    : (profile : List ℕ) (asked : Asked) (include exclude : List ℕ) (r : CheckedRequest) (x : Refusal)
-    → r ≡ refused_by x asked → sequence_of (request_for profile asked include exclude) ≡ refused x
-    → RequestIs profile asked include exclude r
-refused-is profile asked include exclude r x e is =
-    subst (RequestIs profile asked include exclude) (sym e)
-    (record {
-      means = sym is;
-      source-kept = refl;
-      destination-kept = refl;
-      limits-kept = refl;
-      in_first = refl;
-      ready = λ p. absurd (refuse_not_pass x p);
-      none = λ y p. let same : x ≡ y = cc in ap (λ (z : Refusal). refused_by z asked) same;
-    })
+    : (profile : List ℕ) (asked : Asked) (include exclude : List ℕ) (x : Refusal) → sequence_of (request_for profile asked include exclude) ≡ refused x
+    → RequestIs profile asked include exclude (Err x)
+refused-is profile asked include exclude x is = record { means = sym is; query = λ q p. absurd (cc) }
 
 -- the query with the sequence of a reading's state
 abbrev pub query_of : State → NodeAddress → NodeAddress → Limits → Query
@@ -102,3 +89,24 @@ module _ (req : Request) (st : State) (source destination : NodeAddress) where
           placed = placed;
           apart = meaning-different (reading_input req.profile) req.ingress req.include (query_stops req.include q) means;
         }
+
+-- the query of a request whose include list is read
+pub query-is
+    : (P : List ℕ) (asked : Asked) (I E : List ℕ) (st : State) → PassedRequest (request_for P asked I E) → R.SoundState st → R.Placed I st
+    → sequence_of (request_for P asked I E) ≡ meaning (reading_input P) asked.ingress.0 I → meaning (reading_input P) asked.ingress.0 I ≡ good (R.state_stops I st)
+    → RequestIs P asked I E (Ok (query_of st asked.source asked.destination asked.limits))
+query-is P asked I E st passed sound placed left means =
+    record {
+      means = sym (left ∙ means);
+      query =
+          λ q e.
+          let same : query_of st asked.source asked.destination asked.limits ≡ q = cc in
+          subst (QueryIs P asked I E) same
+          (record {
+            source-kept = refl;
+            destination-kept = refl;
+            limits-kept = refl;
+            in_first = refl;
+            ready = ready_query (request_for P asked I E) st asked.source asked.destination passed sound placed means;
+          });
+    }

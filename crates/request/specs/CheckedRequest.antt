@@ -1,15 +1,15 @@
 -- What the checks of a request answer, over `Request` of `model`.
-use Rattle.std.specs.Prelude.{◌≡◌, List, ℕ, replicate, Err}
+use Rattle.std.specs.Prelude.{◌≡◌, List, ℕ, Result, Ok}
 use Rattle.model.specs.declared.Limits.{Limits}
 use Rattle.model.specs.declared.Refusal.{Refusal}
 use Rattle.model.specs.declared.Round.TheVariants.{First}
-use Rattle.model.specs.Verdict.{Verdict, Pass, ◌and_then◌}
+use Rattle.model.specs.Verdict.{Verdict, ◌and_then◌}
 use Rattle.model.specs.Profile.{layout_in, verdict_on}
-use Rattle.model.specs.Sequence.{good}
-use Rattle.model.specs.Request.{Request, ingress_verdict, provided, sequence_of}
+use Rattle.model.specs.Request.{Request, ingress_verdict, sequence_of}
 use Rattle.laws.specs.Lists.{lists_of}
+use Rattle.list_include.specs.Reading.{read_of}
 use Rattle.request.specs.declared.Asked.{Asked}
-use Rattle.request.specs.declared.CheckedRequest.{CheckedRequest}
+use Rattle.request.specs.declared.Query.{Query}
 use Rattle.request.specs.Query.{query_stops, Ready}
 
 -- the request that a call's parameters stand for
@@ -33,31 +33,15 @@ request_for profile asked include exclude = request_of profile asked.ingress.0 a
 abbrev pub start_verdict : List ℕ → ℕ → Verdict
 start_verdict profile ingress = verdict_on profile and_then ingress_verdict profile ingress
 
--- a refusal, with a sequence of no domains
-abbrev pub refused_by : Refusal → Asked → CheckedRequest
-refused_by r asked =
-    record {
-      verdict = Err r;
-      query =
-          record {
-            count = 0;
-            domains = replicate 16 (record { 0 = 0 });
-            pinned = replicate 16 0;
-            pins = replicate 16 (record { 0 = 0 });
-            named = replicate 16 0;
-            source = asked.source;
-            destination = asked.destination;
-            limits = asked.limits;
-            round = First;
-          };
-    }
+-- a query in the first round that is ready for a search, of which source, destination and limits are those that are asked for
+pub record QueryIs (profile : List ℕ) (asked : Asked) (include exclude : List ℕ) (q : Query) : Type 0 where
+  pub source-kept : q.source ≡ asked.source
+  pub destination-kept : q.destination ≡ asked.destination
+  pub limits-kept : q.limits ≡ asked.limits
+  pub in_first : q.round ≡ First
+  pub ready : Ready (layout_in profile) profile (lists_of include exclude) q
 
--- the refusal, or a query in the first round that is ready for a search and whose sequence is the request's; source, destination and limits are kept in any case
-pub record RequestIs (profile : List ℕ) (asked : Asked) (include exclude : List ℕ) (r : CheckedRequest) : Type 0 where
-  pub means : provided r.verdict (good (query_stops include r.query)) ≡ sequence_of (request_for profile asked include exclude)
-  pub source-kept : r.query.source ≡ asked.source
-  pub destination-kept : r.query.destination ≡ asked.destination
-  pub limits-kept : r.query.limits ≡ asked.limits
-  pub in_first : r.query.round ≡ First
-  pub ready : r.verdict ≡ Pass → Ready (layout_in profile) profile (lists_of include exclude) r.query
-  pub none : (x : Refusal) → r.verdict ≡ Err x → r ≡ refused_by x asked
+-- the refusal, or such a query, whose sequence is the request's
+pub record RequestIs (profile : List ℕ) (asked : Asked) (include exclude : List ℕ) (r : Result Query Refusal) : Type 0 where
+  pub means : read_of (query_stops include) r ≡ sequence_of (request_for profile asked include exclude)
+  pub query : (q : Query) → r ≡ Ok q → QueryIs profile asked include exclude q

@@ -6,36 +6,29 @@ ghost use Rattle.request.specs.CheckedRequest.{request_of, start_verdict};
 
 use crate::floats::limits_verdict;
 use list_form::form;
-use model::{DomainIndex, Limits, ListKind, Verdict};
+use model::{DomainIndex, Limits, ListKind, Reason, Verdict};
 use profile_check::verdict_on;
 use profile_records::header::domain_count;
-use refusal::refuse;
+use refusal::refuse_if;
 
 // The profile, and the ingress domain in it.
 pub fn start_verdict(profile: &[u8], ingress: DomainIndex) -> Verdict
     ensures { result ≡ start_verdict profile.now ingress.0 }
 {
-    let v = verdict_on(profile);
-    if let Verdict::Refuse(r) = v {
-        return Verdict::Refuse(r);
-    }
-    if domain_count(profile) <= ingress.0 {
-        return refuse(20, 0);
-    }
-    Verdict::Pass
+    verdict_on(profile)?;
+    refuse_if(
+        domain_count(profile) <= ingress.0,
+        Reason::UnknownIngress,
+        0,
+    )
 }
 
 // The sizes of both lists.
 pub fn sizes_verdict(include: &[u8], exclude: &[u8]) -> Verdict
     ensures { result ≡ sizes_verdict include.now exclude.now }
 {
-    if 1024 < include.len() {
-        return refuse(22, 0);
-    }
-    if 1024 < exclude.len() {
-        return refuse(22, 1);
-    }
-    Verdict::Pass
+    refuse_if(1024 < include.len(), Reason::LongList, 0)?;
+    refuse_if(1024 < exclude.len(), Reason::LongList, 1)
 }
 
 // The form of both lists.
@@ -43,10 +36,7 @@ pub fn forms_verdict(include: &[u8], exclude: &[u8]) -> Verdict
     requires { sizes_verdict include.now exclude.now ≡ Pass }
     ensures { result ≡ forms_verdict include.now exclude.now }
 {
-    let v = form(ListKind::Include, include);
-    if let Verdict::Refuse(r) = v {
-        return Verdict::Refuse(r);
-    }
+    form(ListKind::Include, include)?;
     form(ListKind::Exclude, exclude)
 }
 
@@ -60,17 +50,8 @@ pub fn request_verdict(
 ) -> Verdict
     ensures { (source destination : ℕ) → result ≡ request_verdict (request_of profile.now ingress.0 source destination include.now exclude.now limits) }
 {
-    let first = start_verdict(profile, ingress);
-    if let Verdict::Refuse(r) = first {
-        return Verdict::Refuse(r);
-    }
-    let second = limits_verdict(limits);
-    if let Verdict::Refuse(r) = second {
-        return Verdict::Refuse(r);
-    }
-    let third = sizes_verdict(include, exclude);
-    if let Verdict::Refuse(r) = third {
-        return Verdict::Refuse(r);
-    }
+    start_verdict(profile, ingress)?;
+    limits_verdict(limits)?;
+    sizes_verdict(include, exclude)?;
     forms_verdict(include, exclude)
 }

@@ -4,8 +4,8 @@ ghost use Rattle.model.specs.Floats.{in_range};
 ghost use Rattle.model.specs.Request.{limits_verdict};
 ghost use Rattle.request.specs.Bits.{float_of_bits};
 
-use model::{Limits, Verdict};
-use refusal::refuse;
+use model::{Limits, Reason, Verdict};
+use refusal::refuse_if;
 
 // The bits lie below 7F800000: not negative, finite, a number. A NaN is told first, since its bits are undefined.
 fn in_range(x: f32) -> bool
@@ -21,15 +21,12 @@ fn in_range(x: f32) -> bool
 pub fn limits_verdict(limits: Limits) -> Verdict
     ensures { result ≡ limits_verdict limits }
 {
-    if !in_range(limits.bandwidth) {
-        return refuse(21, 0);
-    }
-    if limits.bounded {
-        if !in_range(limits.bound) {
-            return refuse(21, 1);
-        }
-    }
-    Verdict::Pass
+    refuse_if(!in_range(limits.bandwidth), Reason::FloatOutOfRange, 0)?;
+    refuse_if(
+        limits.bounded && !in_range(limits.bound),
+        Reason::FloatOutOfRange,
+        1,
+    )
 }
 
 // The float of these bits; infinity for all from 7F800000 up, which are out of range like it. (A NaN's bits make no float.)

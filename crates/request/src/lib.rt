@@ -4,12 +4,12 @@
 ghost use Rattle.std.specs.Prelude.{◌≡◌};
 ghost use Rattle.model.specs.Verdict.{Pass};
 ghost use Rattle.model.specs.Request.{request_verdict};
-ghost use Rattle.request.specs.CheckedRequest.{request_for, refused_by, RequestIs};
+ghost use Rattle.request.specs.CheckedRequest.{request_for, RequestIs};
 ghost use Rattle.request.specs.Query.{in_round};
 
 use crate::checks::request_verdict;
 use list_include::read_list;
-use model::{DomainIndex, Limits, NodeAddress, Refusal, Round, Verdict};
+use model::{DomainIndex, Limits, NodeAddress, Refusal, Round};
 
 pub mod checks;
 pub mod floats;
@@ -40,80 +40,44 @@ pub struct Query {
     pub round: Round,
 }
 
-// What the checks before 33 say, and where they pass what a search needs in the first round; where they refuse, a sequence of no domains.
-#[derive(Clone, Copy)]
-pub struct CheckedRequest {
-    pub verdict: Verdict,
-    pub query: Query,
-}
-
-fn refused(r: Refusal, asked: Asked) -> CheckedRequest
-    ensures { result ≡ refused_by r asked }
-{
-    let source = asked.source;
-    let destination = asked.destination;
-    let limits = asked.limits;
-    CheckedRequest {
-        verdict: Verdict::Refuse(r),
-        query: Query {
-            count: 0,
-            domains: [DomainIndex(0); 16],
-            pinned: [0u8; 16],
-            pins: [NodeAddress(0); 16],
-            named: [0u16; 16],
-            source,
-            destination,
-            limits,
-            round: Round::First,
-        },
-    }
-}
-
 // The meaning of the include list of a request that passes the checks before it. Of the exclude list only the contract speaks.
-pub fn read_query(profile: &[u8], asked: Asked, include: &[u8], exclude: &[u8]) -> CheckedRequest
+pub fn read_query(
+    profile: &[u8],
+    asked: Asked,
+    include: &[u8],
+    exclude: &[u8],
+) -> Result<Query, Refusal>
     requires { request_verdict (request_for profile.now asked include.now exclude.now) ≡ Pass }
     ensures { RequestIs profile.now asked include.now exclude.now result }
 {
-    let ingress = asked.ingress;
-    let source = asked.source;
-    let destination = asked.destination;
-    let limits = asked.limits;
-    let read = read_list(profile, ingress, include);
-    let verdict = read.verdict;
-    if let Verdict::Refuse(r) = verdict {
-        return refused(r, asked);
-    }
-    let count = read.state.count;
-    let domains = read.state.domains;
-    let pinned = read.state.pinned;
-    let pins = read.state.pins;
-    let named = read.state.named;
-    CheckedRequest {
-        verdict: Verdict::Pass,
-        query: Query {
-            count,
-            domains,
-            pinned,
-            pins,
-            named,
-            source,
-            destination,
-            limits,
-            round: Round::First,
-        },
-    }
+    let st = read_list(profile, asked.ingress, include)?;
+    let domains = st.domains;
+    let pinned = st.pinned;
+    let pins = st.pins;
+    let named = st.named;
+    Ok(Query {
+        count: st.count,
+        domains,
+        pinned,
+        pins,
+        named,
+        source: asked.source,
+        destination: asked.destination,
+        limits: asked.limits,
+        round: Round::First,
+    })
 }
 
 // All checks before 33, the meaning of the include list last. For every byte slice and every float.
-pub fn check_request(profile: &[u8], asked: Asked, include: &[u8], exclude: &[u8]) -> CheckedRequest
+pub fn check_request(
+    profile: &[u8],
+    asked: Asked,
+    include: &[u8],
+    exclude: &[u8],
+) -> Result<Query, Refusal>
     ensures { RequestIs profile.now asked include.now exclude.now result }
 {
-    let ingress = asked.ingress;
-    let limits = asked.limits;
-    let first = request_verdict(profile, ingress, include, exclude, limits);
-    if let Verdict::Refuse(r) = first {
-        return refused(r, asked);
-    }
+    request_verdict(profile, asked.ingress, include, exclude, asked.limits)?;
     read_query(profile, asked, include, exclude)
 }
 
@@ -121,22 +85,7 @@ pub fn check_request(profile: &[u8], asked: Asked, include: &[u8], exclude: &[u8
 pub fn in_round(q: Query, round: Round) -> Query
     ensures { result ≡ in_round round q }
 {
-    let domains = q.domains;
-    let pinned = q.pinned;
-    let pins = q.pins;
-    let named = q.named;
-    let source = q.source;
-    let destination = q.destination;
-    let limits = q.limits;
-    Query {
-        count: q.count,
-        domains,
-        pinned,
-        pins,
-        named,
-        source,
-        destination,
-        limits,
-        round,
-    }
+    let mut next = q;
+    next.round = round;
+    next
 }

@@ -1,24 +1,19 @@
--- `request::check_request` meets its contract: a refusal of the checks, or what `read_query` makes of a request that passes them.
-use mathlib.Core.Path.{sym, ◌∙◌}
-use Rattle.model.specs.Request.{Request}
-use Rattle.request.specs.CheckedRequest.{request_for}
+-- `request::check_request` meets its contract: a refusal of the checks is the request's.
+use mathlib.Core.Path.{◌≡◌, sym, subst, ◌∙◌}
+use borrow.Author.Rules.{rules}
+use Rattle.std.specs.Prelude.{Result, Err}
+use Rattle.model.specs.declared.Refusal.{Refusal}
+use Rattle.request.specs.declared.Query.{Query}
+use Rattle.request.specs.CheckedRequest.{request_for, RequestIs}
 use Rattle.request.proofs.Queries.{sequence-refused, refused-is}
 use Rattle.request.proofs.check_request.Goals as goal
-use Rattle.request.proofs.check_request.Goals.{Start}
 
-abbrev request : Start → Request
-request c = request_for c.args.profile.now c.args.asked c.args.include.now c.args.exclude.now
-
-pub returns-in-Refuse : goal.returns-in-Refuse
-returns-in-Refuse c =
+pub returns-in_err-request_verdict : goal.returns-in_err-request_verdict
+returns-in_err-request_verdict c =
     let a = c.args in
-    refused-is a.profile.now a.asked a.include.now a.exclude.now _ _ c.refused.ensures
-    (sequence-refused (request (goal.at.returns-in-Refuse c).Start) _ (sym (c.request_verdict-first.ensures a.asked.source.0 a.asked.destination.0) ∙ c.in-Refuse.is))
-
-pub read_query-requires : goal.read_query-requires
-read_query-requires c =
-    let a = c.args in
-    sym (c.request_verdict-first.ensures a.asked.source.0 a.asked.destination.0) ∙ c.in_default.is
-
-pub returns : goal.returns
-returns c = c.read_query.ensures
+    let x = c.in_err-request_verdict.field-0.0 in
+    let same : c.from_residual.result ≡ Err x = search rules in
+    subst (λ (r : Result Query Refusal). RequestIs a.profile.now a.asked a.include.now a.exclude.now r) (sym same)
+    (refused-is a.profile.now a.asked a.include.now a.exclude.now x
+    (sequence-refused (request_for a.profile.now a.asked a.include.now a.exclude.now) x
+    (sym (c.request_verdict.ensures a.asked.source.0 a.asked.destination.0) ∙ c.in_err-request_verdict.was)))
