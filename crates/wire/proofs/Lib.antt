@@ -1,3 +1,3 @@
--- What the proofs of the writers share, and words compared.
-mod Put
+-- Numbers of two and four bytes, and words compared.
+mod Numbers
 mod Words

@@ -18,9 +18,7 @@ pub fn u16_at(s: &[u8], at: usize) -> u16
     requires { at + 2 ≤ length s.now }
     ensures { result ≡ number 2 s.now at }
 {
-    let high = s[at] as u16;
-    let low = s[at + 1] as u16;
-    high * 256 + low
+    u16::from_be_bytes([s[at], s[at + 1]])
 }
 
 // The four bytes from `at` on.
@@ -28,11 +26,7 @@ pub fn u32_at(s: &[u8], at: usize) -> u32
     requires { at + 4 ≤ length s.now }
     ensures { result ≡ number 4 s.now at }
 {
-    let first = s[at] as u32;
-    let second = s[at + 1] as u32;
-    let third = s[at + 2] as u32;
-    let fourth = s[at + 3] as u32;
-    first * 16777216 + (second * 65536 + (third * 256 + fourth))
+    u32::from_be_bytes([s[at], s[at + 1], s[at + 2], s[at + 3]])
 }
 
 // `x` into the two bytes from `at` on; the other bytes stay.
@@ -40,8 +34,7 @@ pub fn put_u16(s: &mut [u8], at: usize, x: u16)
     requires { at + 2 ≤ length s.old }
     ensures { s.new ≡ take at s.old ++ bytes_of 2 x ++ drop (at + 2) s.old }
 {
-    s[at] = (x / 256 % 256) as u8;
-    s[at + 1] = (x % 256) as u8;
+    s[at..at + 2].copy_from_slice(&x.to_be_bytes());
 }
 
 // `x` into the four bytes from `at` on; the other bytes stay.
@@ -49,8 +42,5 @@ pub fn put_u32(s: &mut [u8], at: usize, x: u32)
     requires { at + 4 ≤ length s.old }
     ensures { s.new ≡ take at s.old ++ bytes_of 4 x ++ drop (at + 4) s.old }
 {
-    s[at] = (x / 16777216 % 256) as u8;
-    s[at + 1] = (x / 65536 % 256) as u8;
-    s[at + 2] = (x / 256 % 256) as u8;
-    s[at + 3] = (x % 256) as u8;
+    s[at..at + 4].copy_from_slice(&x.to_be_bytes());
 }

@@ -10,19 +10,12 @@ pub fn record_below(s: &[u8], a: usize, b: usize, words: usize) -> bool
     requires { (a + 4 * words ≤ length s.now) × (b + 4 * words ≤ length s.now) }
     ensures { result ≡ below (part s.now a (4 * words)) (part s.now b (4 * words)) }
 {
-    let mut at = 0;
-    let mut left = words;
-    while 0 < left {
-        let x = u32_at(s, a + at);
-        let y = u32_at(s, b + at);
-        if x < y {
-            return true;
+    for i in 0..words {
+        let x = u32_at(s, a + 4 * i);
+        let y = u32_at(s, b + 4 * i);
+        if x != y {
+            return x < y;
         }
-        if y < x {
-            return false;
-        }
-        at += 4;
-        left -= 1;
     }
     false
 }

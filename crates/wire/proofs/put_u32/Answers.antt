@@ -1,17 +1,13 @@
--- `wire::put_u32` meets its contract: its four stores put the bytes of the number in their place.
-use Rattle.wire.proofs.Put.{put_four}
-use lib.ListN.{length-set}
+-- `wire::put_u32` meets its contract: std's four bytes of the number are the definition's.
+use mathlib.Core.Path.{refl, ◌∙◌}
 use native.Mathlib.Omega.{arith}
+use Rattle.std.proofs.lemmas.Slice.{put_mid-paste}
+use Rattle.model.specs.Bytes.{bytes_of}
+use Rattle.wire.proofs.Numbers.{write_four}
 use Rattle.wire.proofs.put_u32.Goals as goal
 
-pub bounds-s-at-2 : goal.bounds-s-at-2
-bounds-s-at-2 c = simp length-set (omega arith)
-
-pub bounds-s-at-3 : goal.bounds-s-at-3
-bounds-s-at-3 c = simp length-set (omega arith)
-
-pub bounds-s-at-4 : goal.bounds-s-at-4
-bounds-s-at-4 c = simp length-set (omega arith)
-
 pub returns : goal.returns
-returns c = put_four _ _ _ c.requires
+unfolding bytes_of
+returns c =
+    let a = c.args in
+    put_mid-paste a.at _ a.s.now _ (bytes_of 4 a.x) 4 (c.copy_from_slice.ensures.after ∙ c.to_be_bytes.ensures ∙ write_four a.x) (omega arith) refl
