@@ -1,20 +1,22 @@
 -- The objects of a message in turn, as a loop meets them: what a right object says of its bytes, and the first one that passes a test, found step by step.
 -- From the laws of a walk along things.
+use Rattle.std.specs.Prelude.{Option, None, Some}
+use Rattle.std.specs.Option.{option_or}
 use Prim.Native.Nat.{ℕ, ◌+◌, ◌%◌, ◌≤◌, ◌<◌}
 use native.Mathlib.Omega.{arith}
 use mathlib.Core.Path.{◌≡◌, refl, sym, ap}
-use mathlib.Core.Bool.{Bool, true, false, not, cond, ◌&&◌, ◌||◌}
+use mathlib.Core.Bool.{Bool, true, false, not, ◌&&◌, ◌||◌}
 use mathlib.Core.List.{List}
 use lib.ListN.{length}
 use lib.Dec.{eqb, ltb}
-use borrow.Author.Tests.{ltb-false, eqb-true, ne_eqb, not-false}
+use borrow.Author.Tests.{ltb-false, ne_eqb, not-false}
 use Rattle.laws.proofs.Tests.{or_neither}
 use Rattle.laws.proofs.Turns.{and_then-refuse_if, refuse_if_pass}
 use Rattle.pcep_model.specs.declared.MessageKind.{MessageKind}
 use Rattle.model.specs.Verdict.{Pass}
 use Rattle.model.specs.Along.{or_else, first_of}
 use Rattle.pcep_model.specs.Objects.{class_at, type_at, demanded_at, size_at, size_wrong, known_object, own_length, object_verdict, after_object, objects_verdict, objects_in}
-use Rattle.pcep_laws.specs.Firsts.{kept, noted}
+use Rattle.pcep_laws.specs.Firsts.{placed, noted}
 use Rattle.laws.proofs.Along as Along
 
 -- its header lies inside the message, and so does all of it, and its length is its own
@@ -60,19 +62,12 @@ module _ (k : MessageKind) (s : List ℕ) where
 
 -- ---- the first place met so far, and then the first of those to come
 
-module _ (a at later : ℕ) (h : 0 < at) where
-  noted_by_lem : (hit none : Bool) → eqb a 0 ≡ none → kept (noted hit a at) later ≡ kept a (or_else hit at later)
-  noted_by_lem true true e = rw (e, ne_eqb at 0 (λ x. omega arith)) refl
-  noted_by_lem true false e = rw (e, e) refl
-  noted_by_lem false none e = refl
-
-  pub noted-kept : (hit : Bool) → kept (noted hit a at) later ≡ kept a (or_else hit at later)
-  noted-kept hit = noted_by_lem hit (eqb a 0) refl
+pub noted-kept : (a : Option ℕ) (at later : ℕ) → 0 < at → (hit : Bool) → option_or (noted hit a at) (placed later) ≡ option_or a (placed (or_else hit at later))
+noted-kept None at later h true = sym (rw (ne_eqb at 0 (λ x. omega arith)) refl)
+noted-kept (Some x) at later h true = refl
+noted-kept a at later h false = refl
 
 -- nothing more to come
-pub kept_none : (a : ℕ) → kept a 0 ≡ a
-kept_none a = by (eqb a 0) refl
-  where
-    by : (none : Bool) → eqb a 0 ≡ none → cond none 0 a ≡ a
-    by true e = sym (eqb-true a 0 e)
-    by false e = refl
+pub none-to_come : (a : Option ℕ) → option_or a None ≡ a
+none-to_come None = refl
+none-to_come (Some x) = refl

@@ -56,7 +56,7 @@ module _ (k : MessageKind) (c : ℕ) (far : 18 ≤ c) where
       let both = and_both (ltb r.class 18) (all (λ (x : ObjectRule). ltb x.class 18) rules) e in
       rw (no_class (in_message k r) (eqb c r.class) (other r.class both.0)) (far_rows_own n rules both.1)
 
-pub far_least : (k : MessageKind) (c : ℕ) → 18 ≤ c → get_or (leasts k) c 0 ≡ 0
+far_least : (k : MessageKind) (c : ℕ) → 18 ≤ c → get_or (leasts k) c 0 ≡ 0
 far_least Pcreq c h = get_or-eq_default (leasts Pcreq) 0 {n = c} h
 far_least Pcrep c h = get_or-eq_default (leasts Pcrep) 0 {n = c} h
 
@@ -164,46 +164,3 @@ module _ (k : MessageKind) (c : ℕ) where
   pub own_is : (t n : ℕ) → own_length k c t n ≡ fits_least c (least_of k c t) n
   unfolding own_length
   own_is t n = own_by n (eqb t 1)
-
--- no class but those of the table is known
-pub others_in_pcreq : (c : ℕ) → (c ≡ 2 → ⊥) → (c ≡ 4 → ⊥) → (c ≡ 5 → ⊥) → (c ≡ 6 → ⊥) → (c ≡ 10 → ⊥) → (c ≡ 17 → ⊥) → 0 ≡ get_or (leasts Pcreq) c 0
-others_in_pcreq zero h2 h4 h5 h6 h10 h17 = refl
-others_in_pcreq (suc zero) h2 h4 h5 h6 h10 h17 = refl
-others_in_pcreq (suc (suc zero)) h2 h4 h5 h6 h10 h17 = absurd (h2 refl)
-others_in_pcreq (suc (suc (suc zero))) h2 h4 h5 h6 h10 h17 = refl
-others_in_pcreq (suc (suc (suc (suc zero)))) h2 h4 h5 h6 h10 h17 = absurd (h4 refl)
-others_in_pcreq (suc (suc (suc (suc (suc zero))))) h2 h4 h5 h6 h10 h17 = absurd (h5 refl)
-others_in_pcreq (suc (suc (suc (suc (suc (suc zero)))))) h2 h4 h5 h6 h10 h17 = absurd (h6 refl)
-others_in_pcreq (suc (suc (suc (suc (suc (suc (suc zero))))))) h2 h4 h5 h6 h10 h17 = refl
-others_in_pcreq (suc (suc (suc (suc (suc (suc (suc (suc zero)))))))) h2 h4 h5 h6 h10 h17 = refl
-others_in_pcreq (suc (suc (suc (suc (suc (suc (suc (suc (suc zero))))))))) h2 h4 h5 h6 h10 h17 = refl
-others_in_pcreq (suc (suc (suc (suc (suc (suc (suc (suc (suc (suc zero)))))))))) h2 h4 h5 h6 h10 h17 = absurd (h10 refl)
-others_in_pcreq (suc (suc (suc (suc (suc (suc (suc (suc (suc (suc (suc zero))))))))))) h2 h4 h5 h6 h10 h17 = refl
-others_in_pcreq (suc (suc (suc (suc (suc (suc (suc (suc (suc (suc (suc (suc zero)))))))))))) h2 h4 h5 h6 h10 h17 = refl
-others_in_pcreq (suc (suc (suc (suc (suc (suc (suc (suc (suc (suc (suc (suc (suc zero))))))))))))) h2 h4 h5 h6 h10 h17 = refl
-others_in_pcreq (suc (suc (suc (suc (suc (suc (suc (suc (suc (suc (suc (suc (suc (suc zero)))))))))))))) h2 h4 h5 h6 h10 h17 = refl
-others_in_pcreq (suc (suc (suc (suc (suc (suc (suc (suc (suc (suc (suc (suc (suc (suc (suc zero))))))))))))))) h2 h4 h5 h6 h10 h17 = refl
-others_in_pcreq (suc (suc (suc (suc (suc (suc (suc (suc (suc (suc (suc (suc (suc (suc (suc (suc zero)))))))))))))))) h2 h4 h5 h6 h10 h17 = refl
-others_in_pcreq (suc (suc (suc (suc (suc (suc (suc (suc (suc (suc (suc (suc (suc (suc (suc (suc (suc zero))))))))))))))))) h2 h4 h5 h6 h10 h17 = absurd (h17 refl)
-others_in_pcreq (suc (suc (suc (suc (suc (suc (suc (suc (suc (suc (suc (suc (suc (suc (suc (suc (suc (suc c)))))))))))))))))) h2 h4 h5 h6 h10 h17 = sym (far_least Pcreq (suc (suc (suc (suc (suc (suc (suc (suc (suc (suc (suc (suc (suc (suc (suc (suc (suc (suc c)))))))))))))))))) (omega arith))
-
-pub others_in_pcrep : (c : ℕ) → (c ≡ 2 → ⊥) → (c ≡ 3 → ⊥) → (c ≡ 6 → ⊥) → (c ≡ 7 → ⊥) → 0 ≡ get_or (leasts Pcrep) c 0
-others_in_pcrep zero h2 h3 h6 h7 = refl
-others_in_pcrep (suc zero) h2 h3 h6 h7 = refl
-others_in_pcrep (suc (suc zero)) h2 h3 h6 h7 = absurd (h2 refl)
-others_in_pcrep (suc (suc (suc zero))) h2 h3 h6 h7 = absurd (h3 refl)
-others_in_pcrep (suc (suc (suc (suc zero)))) h2 h3 h6 h7 = refl
-others_in_pcrep (suc (suc (suc (suc (suc zero))))) h2 h3 h6 h7 = refl
-others_in_pcrep (suc (suc (suc (suc (suc (suc zero)))))) h2 h3 h6 h7 = absurd (h6 refl)
-others_in_pcrep (suc (suc (suc (suc (suc (suc (suc zero))))))) h2 h3 h6 h7 = absurd (h7 refl)
-others_in_pcrep (suc (suc (suc (suc (suc (suc (suc (suc zero)))))))) h2 h3 h6 h7 = refl
-others_in_pcrep (suc (suc (suc (suc (suc (suc (suc (suc (suc zero))))))))) h2 h3 h6 h7 = refl
-others_in_pcrep (suc (suc (suc (suc (suc (suc (suc (suc (suc (suc zero)))))))))) h2 h3 h6 h7 = refl
-others_in_pcrep (suc (suc (suc (suc (suc (suc (suc (suc (suc (suc (suc zero))))))))))) h2 h3 h6 h7 = refl
-others_in_pcrep (suc (suc (suc (suc (suc (suc (suc (suc (suc (suc (suc (suc zero)))))))))))) h2 h3 h6 h7 = refl
-others_in_pcrep (suc (suc (suc (suc (suc (suc (suc (suc (suc (suc (suc (suc (suc zero))))))))))))) h2 h3 h6 h7 = refl
-others_in_pcrep (suc (suc (suc (suc (suc (suc (suc (suc (suc (suc (suc (suc (suc (suc zero)))))))))))))) h2 h3 h6 h7 = refl
-others_in_pcrep (suc (suc (suc (suc (suc (suc (suc (suc (suc (suc (suc (suc (suc (suc (suc zero))))))))))))))) h2 h3 h6 h7 = refl
-others_in_pcrep (suc (suc (suc (suc (suc (suc (suc (suc (suc (suc (suc (suc (suc (suc (suc (suc zero)))))))))))))))) h2 h3 h6 h7 = refl
-others_in_pcrep (suc (suc (suc (suc (suc (suc (suc (suc (suc (suc (suc (suc (suc (suc (suc (suc (suc zero))))))))))))))))) h2 h3 h6 h7 = refl
-others_in_pcrep (suc (suc (suc (suc (suc (suc (suc (suc (suc (suc (suc (suc (suc (suc (suc (suc (suc (suc c)))))))))))))))))) h2 h3 h6 h7 = sym (far_least Pcrep (suc (suc (suc (suc (suc (suc (suc (suc (suc (suc (suc (suc (suc (suc (suc (suc (suc (suc c)))))))))))))))))) (omega arith))

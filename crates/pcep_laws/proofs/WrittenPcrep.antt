@@ -7,7 +7,7 @@ use mathlib.Core.Bool.{Bool, true, false, cond}
 use mathlib.Core.List.{List, [], ◌∷◌, ◌++◌, map}
 use lib.ListN.{length}
 use borrow.Author.Tests.{le-leb}
-use Rattle.model.specs.Lists.{all, any, each}
+use Rattle.model.specs.Lists.{each}
 use Rattle.model.specs.Bytes.{bytes_of}
 use Rattle.pcep_model.specs.declared.MessageKind.TheVariants.{Pcrep}
 use Rattle.pcep_model.specs.Objects.{RP, NO-PATH, METRIC, ERO, known_object, own_length}

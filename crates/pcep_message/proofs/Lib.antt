@@ -1,3 +1,3 @@
-pub mod Frames
 pub mod Checks
 pub mod Walked
+pub mod Frames

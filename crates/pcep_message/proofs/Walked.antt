@@ -1,33 +1,73 @@
 -- How far the walk along a message's objects is: what is left decides, and with the places known so far it gives the first object of each known class.
-use Rattle.std.specs.Prelude.{Err}
+use Rattle.std.specs.Prelude.{Err, Option, None, Some}
+use Rattle.std.specs.Option.{option_or}
 use Prim.Native.Nat.{ℕ, zero, suc, ◌≤◌, ◌<◌}
 use native.Mathlib.Omega.{arith}
 use mathlib.Core.Path.{◌≡◌, refl, sym, ap, subst, ◌∙◌}
 use mathlib.Core.Bool.{Bool, true, false, cond, ◌&&◌}
 use mathlib.Core.List.{List}
-use lib.ListN.{length, get_or, replicate, set, length-set}
+use lib.ListN.{length, get_or, set, replicate}
 use lib.Dec.{eqb}
 use borrow.Author.Tests.{eqb-true, eqb-false, ne_eqb}
 use lib.Seq.{get_or-set_same, get_or-set_other}
 use Rattle.model.specs.Verdict.{Pass}
 use Rattle.model.specs.declared.Refusal.{Refusal}
-use Rattle.laws.proofs.Turns.{refuse_not_pass}
 use Rattle.laws.proofs.Tests.{and_all, and_none}
 use Rattle.pcep_model.specs.declared.MessageKind.{MessageKind}
 use Rattle.pcep_model.specs.declared.MessageKind.TheVariants.{Pcreq, Pcrep}
 use Rattle.model.specs.Along.{first_of}
 use Rattle.pcep_model.specs.Objects.{class_at, type_at, is_object, object_verdict, objects_verdict, objects_in, after_object, first_object}
 use Rattle.pcep_laws.specs.Table.{leasts}
-use Rattle.pcep_laws.specs.Firsts.{kept, noted}
+use Rattle.pcep_laws.specs.Firsts.{placed, noted}
 use Rattle.laws.proofs.Along as Along
-use Rattle.pcep_laws.proofs.Objects.{right_object, further, first_end, first_next, noted-kept, kept_none}
-use Rattle.pcep_message.specs.Walked.{known_class, FirstsAre, ObjectsAre}
+use Rattle.pcep_laws.proofs.Objects.{right_object, further, first_end, first_next, noted-kept, none-to_come}
+use Rattle.pcep_message.specs.declared.objects.Known.{Known}
+use Rattle.pcep_message.specs.declared.objects.Known.TheVariants.{Rp, NoPath, EndPoints, Bandwidth, Metric, Ero, Iro, Xro}
+use Rattle.pcep_message.specs.declared.objects.Objects.{Objects}
+use Rattle.pcep_message.specs.Known.{class_of}
+use Rattle.pcep_message.specs.Walked.{class_known, places, first_at, Noted, ObjectsPassed}
 
 -- no class 0 is known
 no_zero : (k : MessageKind) (c : ℕ) → 0 < get_or (leasts k) c 0 → eqb 0 c ≡ false
 no_zero Pcreq zero h = absurd (omega arith)
 no_zero Pcrep zero h = absurd (omega arith)
 no_zero k (suc c) h = ne_eqb 0 (suc c) (λ e. omega arith)
+
+class-small : (o : Known) → class_of o < 18
+class-small Rp = omega arith
+class-small NoPath = omega arith
+class-small EndPoints = omega arith
+class-small Bandwidth = omega arith
+class-small Metric = omega arith
+class-small Ero = omega arith
+class-small Iro = omega arith
+class-small Xro = omega arith
+
+-- no place is known at first
+nothing-met : (c : ℕ) → first_at (record { rp = None; no_path = None; end_points = None; bandwidth = None; metric = None; ero = None; iro = None; xro = None }) c ≡ None
+nothing-met c = none 18 c
+  where
+    no-place : Option ℕ
+    no-place = None
+
+    none : (n c : ℕ) → get_or (replicate n (no-place)) c no-place ≡ no-place
+    none zero c = refl
+    none (suc n) zero = refl
+    none (suc n) (suc c) = none n c
+
+-- an object that was met stands in the list of places by its class
+noted_at : (m r : Objects) (o : Known) (at : ℕ) → Noted m o at r → (c : ℕ) → first_at r c ≡ noted (eqb (class_of o) c) (first_at m c) at
+noted_at m r o at e c = ap (λ (l : List (Option ℕ)). get_or l c None) e ∙ by (eqb (class_of o) c) refl
+  where
+    new : Option ℕ
+    new = option_or (first_at m (class_of o)) (Some at)
+
+    by : (b : Bool) → eqb (class_of o) c ≡ b → get_or (set (places m) (class_of o) new) c None ≡ noted b (first_at m c) at
+    by true t =
+        let same = eqb-true (class_of o) c t in
+        subst (λ (i : ℕ). get_or (set (places m) (class_of o) new) i None ≡ noted true (first_at m i) at) same
+        (get_or-set_same (places m) (class_of o) new None (let s = class-small o in omega arith))
+    by false f = get_or-set_other (places m) (class_of o) c new None (λ y. eqb-false (class_of o) c f (sym y))
 
 module _ (k : MessageKind) (s : List ℕ) where
   -- the class that the code goes by is that of the object, for every class known in the message
@@ -46,84 +86,66 @@ module _ (k : MessageKind) (s : List ℕ) where
     by_type true = by_row (eqb (get_or (leasts k) here 0) 0) refl ∙ and_all (eqb here c)
     by_type false = no_zero k c known ∙ and_none (eqb here c)
 
-    pub known_same : eqb (known_class k s at) c ≡ is_object c s at
+    pub known_same : eqb (class_known k s at) c ≡ is_object c s at
     known_same = by_type (eqb (type_at s at) 1)
 
-  pub record Walked (at : ℕ) (firsts : List ℕ) : Type 0 where
+  pub record Walked (at : ℕ) (m : Objects) : Type 0 where
     pub start : 4 ≤ at
     pub reached : at ≤ length s
     pub same : objects_verdict k s at ≡ objects_verdict k s 4
-    pub long : length firsts ≡ 18
     pub met
         : objects_verdict k s 4 ≡ Pass → (c : ℕ) → 0 < get_or (leasts k) c 0
-        → kept (get_or firsts c 0) (first_of (is_object c s) (objects_in s at)) ≡ first_of (is_object c s) (objects_in s 4)
+        → option_or (first_at m c) (placed (first_of (is_object c s) (objects_in s at))) ≡ placed (first_of (is_object c s) (objects_in s 4))
 
-zeros : (n c : ℕ) → ◌≡◌ {A = ℕ} (get_or (replicate n 0) c 0) 0
-zeros zero c = refl
-zeros (suc n) zero = refl
-zeros (suc n) (suc c) = zeros n c
-
-module _ (k : MessageKind) (s : List ℕ) where
-  pub walk_starts : 4 ≤ length s → Walked k s 4 (replicate 18 0)
+  pub walk_starts : 4 ≤ length s → Walked 4 (record { rp = None; no_path = None; end_points = None; bandwidth = None; metric = None; ero = None; iro = None; xro = None })
   walk_starts h =
       record {
         start = omega arith;
         reached = h;
         same = refl;
-        long = refl;
-        met = λ e c known. ap (λ (x : ℕ). kept x (first_of (is_object c s) (objects_in s 4))) (zeros 18 c);
+        met = λ e c known. ap (λ (x : Option ℕ). option_or x (placed (first_of (is_object c s) (objects_in s 4)))) (nothing-met c);
       }
 
-  module _ (at : ℕ) (firsts : List ℕ) (w : Walked k s at firsts) where
-    walk_ends : length s ≤ at → (objects_verdict k s 4 ≡ Pass) × FirstsAre k s firsts
+  module _ (at : ℕ) (m : Objects) (w : Walked at m) where
+    pub walk_ends : length s ≤ at → ObjectsPassed k s m
     unfolding first_object
     walk_ends h =
-        let pass = sym w.same ∙ Along.checked_end (after_object s) (length s) (object_verdict k s) (further k s) at h in (
-          pass,
-          λ c known.
-              sym (kept_none (get_or firsts c 0))
-              ∙ ap (kept (get_or firsts c 0)) (sym (first_end k s (is_object c s) at h))
-              ∙ w.met pass c known,
-        )
-
-    -- an object that is refused refuses the message
-    pub walk_refused : at < length s → (x : Refusal) → object_verdict k s at ≡ Err x → ObjectsAre k s (record { verdict = Err x; firsts = replicate 18 0 })
-    walk_refused h x e =
+        let pass = sym w.same ∙ Along.checked_end (after_object s) (length s) (object_verdict k s) (further k s) at h in
         record {
-          verdict = sym (Along.checked_refused (after_object s) (length s) (object_verdict k s) (further k s) at h x e) ∙ w.same;
-          firsts-long = refl;
-          firsts = λ p. absurd (refuse_not_pass x p);
-          none = λ y p. refl;
+          verdict = pass;
+          firsts =
+              λ c known.
+              sym (none-to_come (first_at m c))
+              ∙ ap (λ (x : ℕ). option_or (first_at m c) (placed x)) (sym (first_end k s (is_object c s) at h))
+              ∙ w.met pass c known;
         }
 
-    pub walk_passes : length s ≤ at → ObjectsAre k s (record { verdict = Pass; firsts = firsts })
-    walk_passes h = let e = walk_ends h in record { verdict = sym e.0; firsts-long = w.long; firsts = λ p. e.1; none = λ x p. absurd (refuse_not_pass x (sym p)) }
+    -- an object that is refused refuses the message
+    pub walk_refused : at < length s → (x : Refusal) → object_verdict k s at ≡ Err x → objects_verdict k s 4 ≡ Err x
+    walk_refused h x e = sym w.same ∙ Along.checked_refused (after_object s) (length s) (object_verdict k s) (further k s) at h x e
 
     -- one step: the object passes, and its place is noted for its class
-    module _ (h : at < length s) (pass : object_verdict k s at ≡ Pass) (class : ℕ) (is : class ≡ known_class k s at) (small : class < 18) where
-      abbrev new : ℕ → List ℕ
-      new x = set firsts class x
-
-      new_at : (x : ℕ) → x ≡ noted true (get_or firsts class 0) at → (c : ℕ) → get_or (new x) c 0 ≡ noted (eqb class c) (get_or firsts c 0) at
-      new_at x e c = by (eqb class c) refl
-        where
-          by : (b : Bool) → eqb class c ≡ b → get_or (new x) c 0 ≡ noted b (get_or firsts c 0) at
-          by true t = let same = eqb-true class c t in subst (λ (i : ℕ). get_or (new x) i 0 ≡ noted true (get_or firsts i 0) at) same (get_or-set_same firsts class x 0 (omega (arith, w.long)) ∙ e)
-          by false f = get_or-set_other firsts class c x 0 (λ y. eqb-false class c f (sym y))
-
-      pub walk_goes_on : (x : ℕ) → x ≡ noted true (get_or firsts class 0) at → Walked k s (after_object s at) (new x)
-      walk_goes_on x e =
-          let r = right_object k s at pass in
+    module _ (h : at < length s) (pass : object_verdict k s at ≡ Pass) where
+      next : (r : Objects) → ((c : ℕ) → 0 < get_or (leasts k) c 0 → first_at r c ≡ noted (is_object c s at) (first_at m c) at) → Walked (after_object s at) r
+      next r e =
+          let o = right_object k s at pass in
           record {
-            start = omega (arith, w.start, r.long);
-            reached = r.inside;
+            start = omega (arith, w.start, o.long);
+            reached = o.inside;
             same = sym (Along.checked_next (after_object s) (length s) (object_verdict k s) (further k s) at h pass) ∙ w.same;
-            long = length-set firsts class x ∙ w.long;
             met =
                 λ p c known.
                 let later = first_of (is_object c s) (objects_in s (after_object s at)) in
-                ap (λ (y : ℕ). kept y later) (new_at x e c ∙ ap (λ (b : Bool). noted b (get_or firsts c 0) at) (ap (λ (i : ℕ). eqb i c) is ∙ known_same k s at c known))
-                ∙ noted-kept (get_or firsts c 0) at later (omega (arith, w.start)) (is_object c s at)
-                ∙ ap (kept (get_or firsts c 0)) (sym (first_next k s (is_object c s) at h (w.same ∙ p)))
+                ap (λ (y : Option ℕ). option_or y (placed later)) (e c known)
+                ∙ noted-kept (first_at m c) at later (omega (arith, w.start)) (is_object c s at)
+                ∙ ap (λ (x : ℕ). option_or (first_at m c) (placed x)) (sym (first_next k s (is_object c s) at h (w.same ∙ p)))
                 ∙ w.met p c known;
           }
+
+      pub walk_notes : (o : Known) → class_of o ≡ class_known k s at → (r : Objects) → Noted m o at r → Walked (after_object s at) r
+      walk_notes o is r n =
+          next r (λ c known. noted_at m r o at n c ∙ ap (λ (b : Bool). noted b (first_at m c) at) (ap (λ (i : ℕ). eqb i c) is ∙ known_same at c known))
+
+      pub walk_skips : 0 ≡ class_known k s at → Walked (after_object s at) m
+      walk_skips is =
+          next m (λ c known. ap (λ (b : Bool). noted b (first_at m c) at) (sym (no_zero k c known) ∙ ap (λ (i : ℕ). eqb i c) is ∙ known_same at c known))

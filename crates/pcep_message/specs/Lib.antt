@@ -1,3 +1,4 @@
+pub mod Known
 pub mod Framed
 pub mod Walked
 pub mod Extents

@@ -1,183 +1,203 @@
 // A PCEP message's objects in turn, 37 and 38, with where the first one of each known class starts.
-ghost use Rattle.std.specs.Prelude.{◌≡◌, ◌≤◌, ◌<◌, length, get_or, replicate, true};
-ghost use Rattle.pcep_model.specs.declared.MessageKind.TheVariants.{Pcreq, Pcrep};
-ghost use Rattle.pcep_laws.specs.Table.{leasts, least_of, fits_least};
-ghost use Rattle.pcep_laws.specs.Firsts.{noted};
-ghost use Rattle.pcep_message.specs.Walked.{size_refused, ObjectIs, ObjectsAre};
+ghost use Rattle.std.specs.Prelude.{◌≡◌, ◌≤◌, ◌<◌, ◌/◌, ◌%◌, ◌&&◌, eqb, length, Some};
+ghost use Rattle.std.specs.Option.{is_none, option_or};
+ghost use Rattle.pcep_message.specs.Known.{KnownIs, length_of, fits};
+ghost use Rattle.pcep_message.specs.Walked.{size_refused, ObjectIs, ObjectsAre, Noted};
 
-use model::{Refusal, Verdict};
+use model::{Reason, Refusal};
 use pcep_model::MessageKind;
-use wire::{u16_at, wide};
+use wire::u16_at;
 
-// The least length of the known object of each class, all of type 1, 0 where none is known. By tests, since a table in memory would be laid out anew for
-// each object.
-fn in_pcreq(class: u8) -> usize
-    ensures { result ≡ get_or (leasts Pcreq) class 0 }
-{
-    match class {
-        2 => 12,
-        4 => 12,
-        5 => 8,
-        6 => 12,
-        10 => 4,
-        17 => 8,
-        _ => 0,
-    }
+// The known objects, each of a class of its own and of type 1.
+#[derive(Clone, Copy)]
+enum Known {
+    Rp,
+    NoPath,
+    EndPoints,
+    Bandwidth,
+    Metric,
+    Ero,
+    Iro,
+    Xro,
 }
 
-fn in_pcrep(class: u8) -> usize
-    ensures { result ≡ get_or (leasts Pcrep) class 0 }
-{
-    match class {
-        2 => 12,
-        3 => 8,
-        6 => 12,
-        7 => 4,
-        _ => 0,
-    }
-}
-
-// The least length of an object of this class and type, 0 where it isn't known.
-fn least_of(kind: MessageKind, class: u8, form: u8) -> usize
-    ensures { result ≡ least_of kind class form }
+// What an object of this class and type is, where this message knows it.
+fn known_object(kind: MessageKind, class: u8, form: u8) -> Option<Known>
+    ensures { KnownIs kind class form result }
 {
     if form != 1 {
-        return 0;
+        return None;
     }
-    match kind {
-        MessageKind::Pcreq => in_pcreq(class),
-        MessageKind::Pcrep => in_pcrep(class),
+    match (kind, class) {
+        (_, 2) => Some(Known::Rp),
+        (MessageKind::Pcrep, 3) => Some(Known::NoPath),
+        (MessageKind::Pcreq, 4) => Some(Known::EndPoints),
+        (MessageKind::Pcreq, 5) => Some(Known::Bandwidth),
+        (_, 6) => Some(Known::Metric),
+        (MessageKind::Pcrep, 7) => Some(Known::Ero),
+        (MessageKind::Pcreq, 10) => Some(Known::Iro),
+        (MessageKind::Pcreq, 17) => Some(Known::Xro),
+        _ => None,
     }
 }
 
-// An object of this class with this least length can be n bytes long.
-fn fits(class: u8, least: usize, n: usize) -> bool
-    ensures { result ≡ fits_least class least n }
+// Its least length.
+fn least_of(object: Known) -> usize
+    ensures { result ≡ length_of object }
 {
-    if least == 0 {
-        return true;
+    match object {
+        Known::Rp | Known::EndPoints | Known::Metric => 12,
+        Known::NoPath | Known::Bandwidth | Known::Xro => 8,
+        Known::Ero | Known::Iro => 4,
     }
-    if n < least {
-        return false;
+}
+
+// It can be n bytes long. Those that nothing can make longer have their least length alone.
+fn fits(object: Known, n: usize) -> bool
+    ensures { result ≡ fits (Some object) n }
+{
+    let least = least_of(object);
+    match object {
+        Known::EndPoints | Known::Bandwidth | Known::Metric => n == least,
+        _ => least <= n,
     }
-    if class < 4 {
-        return true;
-    }
-    if 6 < class {
-        return true;
-    }
-    n == least
 }
 
 // A length under 4, not a multiple of 4, past what is left of the message, or not the object's own.
-fn size_wrong(class: u8, least: usize, n: usize, left: usize) -> bool
-    ensures { result ≡ size_refused class least n left }
+fn size_wrong(object: Option<Known>, n: usize, left: usize) -> bool
+    ensures { result ≡ size_refused object n left }
 {
-    if n < 4 {
+    if n < 4 || n % 4 != 0 || left < n {
         return true;
     }
-    if n % 4 != 0 {
-        return true;
+    match object {
+        Some(known) => !fits(known, n),
+        None => false,
     }
-    if left < n {
-        return true;
-    }
-    !fits(class, least, n)
 }
 
-// What the check of an object says: refused, or its class, 0 where it isn't known, and where the next one starts.
+// An object that isn't known, by whose second byte P is set.
+fn demanded(object: Option<Known>, second: u8) -> bool
+    ensures { result ≡ (is_none object && eqb (second / 2 % 2) 1) }
+{
+    object.is_none() && second / 2 % 2 == 1
+}
+
+// An object that passes: what it is, if it is known, and where the next one starts.
 #[derive(Clone, Copy)]
-enum Object {
-    Refused(Refusal),
-    Passed { class: usize, next: usize },
+struct Object {
+    known: Option<Known>,
+    next: usize,
 }
 
 // The object at an offset.
-fn object_at(kind: MessageKind, message: &[u8], at: usize) -> Object
+fn object_at(kind: MessageKind, message: &[u8], at: usize) -> Result<Object, Refusal>
     requires { (at < length message.now) × (length message.now ≤ 65535) }
     ensures { ObjectIs kind message.now at result }
 {
     let left = message.len() - at;
     if left < 4 {
-        return Object::Refused(Refusal {
-            number: 37,
-            place: at as u32,
-        });
+        return Err(Refusal::new(Reason::WrongObject, at as u32));
     }
-    let class = message[at];
     let second = message[at + 1];
     let n = u16_at(message, at + 2) as usize;
-    let least = least_of(kind, class, second / 16);
-    if size_wrong(class, least, n, left) {
-        return Object::Refused(Refusal {
-            number: 37,
-            place: at as u32,
-        });
+    let known = known_object(kind, message[at], second / 16);
+    if size_wrong(known, n, left) {
+        return Err(Refusal::new(Reason::WrongObject, at as u32));
     }
-    if least != 0 {
-        return Object::Passed {
-            class: wide(class),
-            next: at + n,
-        };
+    if demanded(known, second) {
+        return Err(Refusal::new(Reason::UnknownObject, at as u32));
     }
-    if second / 2 % 2 == 1 {
-        return Object::Refused(Refusal {
-            number: 38,
-            place: at as u32,
-        });
-    }
-    Object::Passed {
-        class: 0,
+    Ok(Object {
+        known,
         next: at + n,
-    }
+    })
 }
 
-// What the checks of the objects in turn say, and where they pass the offset of the first one of each class that is known, 0 for none; 0 for all
-// where they refuse.
+// Where the first object of each class that is known in the message starts.
 #[derive(Clone, Copy)]
 pub struct Objects {
-    pub verdict: Verdict,
-    pub firsts: [u16; 18],
+    pub rp: Option<u16>,
+    pub no_path: Option<u16>,
+    pub end_points: Option<u16>,
+    pub bandwidth: Option<u16>,
+    pub metric: Option<u16>,
+    pub ero: Option<u16>,
+    pub iro: Option<u16>,
+    pub xro: Option<u16>,
 }
 
-pub(crate) fn refused(r: Refusal) -> Objects
-    ensures { result ≡ record { verdict = Refuse r; firsts = replicate 18 0 } }
-{
-    Objects {
-        verdict: Verdict::Refuse(r),
-        firsts: [0u16; 18],
-    }
-}
+const NONE_MET: Objects = Objects {
+    rp: None,
+    no_path: None,
+    end_points: None,
+    bandwidth: None,
+    metric: None,
+    ero: None,
+    iro: None,
+    xro: None,
+};
 
 // The first place met of a class: the one known so far, or where there is none this one.
-fn first_of(known: u16, at: u16) -> u16
-    ensures { result ≡ noted true known at }
+fn first_of(known: Option<u16>, at: u16) -> Option<u16>
+    ensures { result ≡ option_or known (Some at) }
 {
-    if known == 0 {
-        return at;
+    known.or(Some(at))
+}
+
+// The places met, with this one of an object.
+fn noted(met: Objects, object: Known, at: u16) -> Objects
+    ensures { Noted met object at result }
+{
+    match object {
+        Known::Rp => Objects {
+            rp: first_of(met.rp, at),
+            ..met
+        },
+        Known::NoPath => Objects {
+            no_path: first_of(met.no_path, at),
+            ..met
+        },
+        Known::EndPoints => Objects {
+            end_points: first_of(met.end_points, at),
+            ..met
+        },
+        Known::Bandwidth => Objects {
+            bandwidth: first_of(met.bandwidth, at),
+            ..met
+        },
+        Known::Metric => Objects {
+            metric: first_of(met.metric, at),
+            ..met
+        },
+        Known::Ero => Objects {
+            ero: first_of(met.ero, at),
+            ..met
+        },
+        Known::Iro => Objects {
+            iro: first_of(met.iro, at),
+            ..met
+        },
+        Known::Xro => Objects {
+            xro: first_of(met.xro, at),
+            ..met
+        },
     }
-    known
 }
 
 // The objects of a message, behind its header.
-pub fn objects_in(kind: MessageKind, message: &[u8]) -> Objects
+pub fn objects_in(kind: MessageKind, message: &[u8]) -> Result<Objects, Refusal>
     requires { (4 ≤ length message.now) × (length message.now ≤ 65535) }
     ensures { ObjectsAre kind message.now result }
 {
-    let mut firsts = [0u16; 18];
+    let mut met = NONE_MET;
     let mut at: usize = 4;
     while at < message.len() {
-        let object = object_at(kind, message, at);
-        match object {
-            Object::Refused(r) => return refused(r),
-            Object::Passed { class, next } => {
-                firsts[class] = first_of(firsts[class], at as u16);
-                at = next;
-            }
+        let object = object_at(kind, message, at)?;
+        if let Some(known) = object.known {
+            met = noted(met, known, at as u16);
         }
+        at = object.next;
     }
-    Objects {
-        verdict: Verdict::Pass,
-        firsts,
-    }
+    Ok(met)
 }

@@ -8,11 +8,10 @@ use mathlib.Core.Logic.{⊎_elim}
 use mathlib.Core.Bool.{true, false}
 use lib.Dec.{ltb}
 use lib.ListN.{length, length-map, get_or, take, drop, set}
-use lib.Seq.{length-take-le, take_all}
 use borrow.Author.Tests.{ltb-true, ltb-false}
 use Rattle.model.specs.Verdict.{Pass}
 use Rattle.model.specs.Lists.{over}
-use Rattle.laws.proofs.Lists.{over-length, over_nothing, Copied-next}
+use Rattle.laws.proofs.Lists.{over_nothing, Copied-next}
 use Rattle.laws.proofs.Tests.{decide}
 use Rattle.pcep_model.specs.Objects.{objects_verdict}
 use Rattle.pcep_model.specs.Metrics.{Metric, metric_at, metrics}
@@ -29,21 +28,12 @@ module _ {A : Type 0} (f : A → ℕ) (xs : List A) (old : List ℕ) where
   pub written_none : Written 0 old
   written_none = sym (over_nothing old)
 
-  taken_long : (i : ℕ) → i ≤ length xs → length (take i (map f xs)) ≡ i
-  taken_long i h = length-take-le i (map f xs) (let l = length-map xs f in omega arith)
-
-  pub written-length : (i : ℕ) (new : List ℕ) → i ≤ length xs → i ≤ length old → Written i new → length new ≡ length old
-  written-length i new h k w = ap length w ∙ over-length (take i (map f xs)) old (let l = taken_long i h in omega arith)
-
   pub written_next : (i x : ℕ) (new : List ℕ) → i < length xs → i < length old → x ≡ get_or (map f xs) i 0 → Written i new → Written (i + 1) (set new i x)
   written_next i x new h k e w =
       ap (λ (y : ℕ). set new i y) e
       ∙ ap (λ (n : List ℕ). set n i (get_or (map f xs) i 0)) w
       ∙ Copied-next (map f xs) old i 0 (let l = length-map xs f in omega arith) k
       ∙ ap (λ (n : ℕ). over (take n (map f xs)) old) (sym (add-one i))
-
-  pub written_all : (i : ℕ) (new : List ℕ) → i ≡ length xs → Written i new → new ≡ over (map f xs) old
-  written_all i new e w = w ∙ ap (λ (l : List ℕ). over l old) (take_all i (map f xs) (let n = length-map xs f in omega arith))
 
 module _ {A : Type 0} where
   none_there : (y : A) (ys : List A) → ◌≡◌ {A = List A} [] (y ∷ ys) → ⊥

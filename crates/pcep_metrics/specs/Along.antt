@@ -3,6 +3,7 @@ use Rattle.std.specs.Prelude.{ℕ, ◌≤◌, ◌<◌, ◌≡◌, true, List, le
 use Rattle.pcep_model.specs.declared.MessageKind.{MessageKind}
 use Rattle.pcep_model.specs.Objects.{METRIC, is_object, objects_verdict}
 use Rattle.pcep_model.specs.Metrics.{Metric, metrics, wrong_metric, bound_metric}
+use Rattle.pcep_laws.specs.Firsts.{placed}
 use Rattle.pcep_laws.specs.Left.{metrics_left}
 use Rattle.pcep_metrics.specs.declared.MetricScan.{MetricScan}
 use Rattle.model.specs.Verdict.{Pass}
@@ -34,8 +35,8 @@ pub record NextMetric (s : List ℕ) (from r : ℕ) : Type 0 where
 
 pub record MetricScanIs (s : List ℕ) (r : MetricScan) : Type 0 where
   pub count : r.count ≡ length (metrics s)
-  pub bound : r.bound ≡ bound_metric s
-  pub wrong : r.wrong ≡ wrong_metric s
+  pub bound : r.bound ≡ placed (bound_metric s)
+  pub wrong : r.wrong ≡ placed (wrong_metric s)
   pub most : r.count ≤ 65535
 
 -- the fields of a METRIC

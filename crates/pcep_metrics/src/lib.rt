@@ -15,10 +15,7 @@ fn is_metric(message: &[u8], at: usize) -> bool
     requires { at + 4 ≤ length message.now }
     ensures { result ≡ is_object METRIC message.now at }
 {
-    if message[at] != 6 {
-        return false;
-    }
-    message[at + 1] / 16 == 1
+    message[at] == 6 && message[at + 1] / 16 == 1
 }
 
 // The first METRIC from an object on, or the end of the message.
@@ -37,44 +34,40 @@ fn next_metric(message: &[u8], from: usize) -> usize
 }
 
 // The first place met that passes a test: the one known so far, or where there is none this one, if it does.
-fn noted(hit: bool, known: usize, at: usize) -> usize
+fn noted(hit: bool, known: Option<usize>, at: usize) -> Option<usize>
     ensures { result ≡ noted_by hit known at }
 {
     if hit {
-        if known == 0 {
-            return at;
-        }
+        return known.or(Some(at));
     }
     known
 }
 
-// How many METRICs a message has, and where the first with B set and the first out of range start, 0 for none.
+// How many METRICs a message has, and where the first with B set and the first out of range start.
 #[derive(Clone, Copy)]
 pub struct MetricScan {
     pub count: usize,
-    pub bound: usize,
-    pub wrong: usize,
+    pub bound: Option<usize>,
+    pub wrong: Option<usize>,
 }
 
 pub fn judge(message: &[u8]) -> MetricScan
     requires { Passed message.now }
     ensures { MetricScanIs message.now result }
 {
-    let mut count: usize = 0;
-    let mut bound: usize = 0;
-    let mut wrong: usize = 0;
+    let mut scan = MetricScan {
+        count: 0,
+        bound: None,
+        wrong: None,
+    };
     let mut at = next_metric(message, 4);
     while at < message.len() {
-        count += 1;
-        bound = noted(message[at + 6] % 2 == 1, bound, at);
-        wrong = noted(0x7F800000 <= u32_at(message, at + 8), wrong, at);
+        scan.count += 1;
+        scan.bound = noted(message[at + 6] % 2 == 1, scan.bound, at);
+        scan.wrong = noted(0x7F800000 <= u32_at(message, at + 8), scan.wrong, at);
         at = next_metric(message, at + 12);
     }
-    MetricScan {
-        count,
-        bound,
-        wrong,
-    }
+    scan
 }
 
 // Kind, flags and value of each METRIC, `count` of them, over the start of three lent buffers.
@@ -91,13 +84,11 @@ pub fn put_metrics(
     ensures values_after { values.new ≡ over (map value_of (metrics message.now)) values.old }
 {
     let mut at: usize = 4;
-    let mut i: usize = 0;
-    while i < count {
+    for i in 0..count {
         at = next_metric(message, at);
         kinds[i] = message[at + 7];
         flags[i] = message[at + 6];
         values[i] = u32_at(message, at + 8);
         at += 12;
-        i += 1;
     }
 }

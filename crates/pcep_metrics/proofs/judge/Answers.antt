@@ -10,7 +10,7 @@ use Rattle.pcep_metrics.proofs.judge.Goals.{In-loop-at}
 inside : (c : In-loop-at) → c.loop-at.at + 12 ≤ length c.args.message.now
 inside c =
     let l = c.loop-at in
-    whole c.args.message.now c.requires l.at l.count l.bound l.wrong (l.invariant c.requires) c.loop-at-test.true
+    whole c.args.message.now c.requires l.at l.scan (l.invariant c.requires) c.loop-at-test.true
 
 pub next_metric-at-requires : goal.next_metric-at-requires
 next_metric-at-requires c = at_start c.args.message.now c.requires
@@ -18,8 +18,8 @@ next_metric-at-requires c = at_start c.args.message.now c.requires
 pub loop-at-init : goal.loop-at-init
 loop-at-init c = λ p. judging_starts c.args.message.now p c.next_metric-at.result c.next_metric-at.ensures
 
-pub overflow_add-count : goal.overflow_add-count
-overflow_add-count c =
+pub overflow_add-scan : goal.overflow_add-scan
+overflow_add-scan c =
     let j = c.loop-at.invariant c.requires in
     record { fits = omega (arith, j.few, j.inside, c.requires.short) }
 
@@ -29,17 +29,11 @@ overflow_add-at c = record { fits = omega (arith, inside (goal.at.overflow_add-a
 pub bounds-message-at : goal.bounds-message-at
 bounds-message-at c = omega (arith, inside (goal.at.bounds-message-at c).In-loop-at)
 
-pub noted-bound-requires : goal.noted-bound-requires
-noted-bound-requires c = tt
-
 pub overflow_add-at-in-loop-at : goal.overflow_add-at-in-loop-at
 overflow_add-at-in-loop-at c = record { fits = omega (arith, inside (goal.at.overflow_add-at-in-loop-at c).In-loop-at, c.requires.short) }
 
 pub u32_at-requires : goal.u32_at-requires
 u32_at-requires c = omega (arith, inside (goal.at.u32_at-requires c).In-loop-at)
-
-pub noted-wrong-requires : goal.noted-wrong-requires
-noted-wrong-requires c = tt
 
 pub overflow_add-at-in-loop-at-2 : goal.overflow_add-at-in-loop-at-2
 overflow_add-at-in-loop-at-2 c = record { fits = omega (arith, inside (goal.at.overflow_add-at-in-loop-at-2 c).In-loop-at, c.requires.short) }
@@ -47,7 +41,7 @@ overflow_add-at-in-loop-at-2 c = record { fits = omega (arith, inside (goal.at.o
 pub next_metric-at-requires-in-loop-at : goal.next_metric-at-requires-in-loop-at
 next_metric-at-requires-in-loop-at c =
     let l = c.loop-at in
-    behind c.args.message.now c.requires l.at l.count l.bound l.wrong (l.invariant c.requires) c.loop-at-test.true
+    behind c.args.message.now c.requires l.at l.scan (l.invariant c.requires) c.loop-at-test.true
 
 pub loop-at-smaller : goal.loop-at-smaller
 loop-at-smaller c =
@@ -58,10 +52,10 @@ loop-at-smaller c =
 pub loop-at-preserved : goal.loop-at-preserved
 loop-at-preserved c =
     let l = c.loop-at in
-    rw (c.noted-bound.ensures, c.noted-wrong.ensures, c.u32_at.ensures)
-    (λ p. judging_goes_on c.args.message.now p l.at l.count l.bound l.wrong (l.invariant p) c.loop-at-test.true c.next_metric-at-in-loop-at.result c.next_metric-at-in-loop-at.ensures)
+    rw (c.noted-scan.ensures, c.noted-scan-in-loop-at.ensures, c.u32_at.ensures)
+    (λ p. judging_goes_on c.args.message.now p l.at l.scan (l.invariant p) c.loop-at-test.true c.next_metric-at-in-loop-at.result c.next_metric-at-in-loop-at.ensures)
 
 pub returns : goal.returns
 returns c =
     let l = c.loop-at in
-    judging_ends c.args.message.now c.requires l.at l.count l.bound l.wrong (l.invariant c.requires) c.loop-at-test.false
+    judging_ends c.args.message.now c.requires l.at l.scan (l.invariant c.requires) c.loop-at-test.false

@@ -5,7 +5,7 @@ use Rattle.pcep_message.proofs.Walked.{Walked}
 use Rattle.pcep_message.proofs.objects.objects_in.Given as goal
 
 abbrev pub invariant-loop-at : goal.invariant-loop-at
-invariant-loop-at l = Walked l.kind l.message l.at l.firsts
+invariant-loop-at l = Walked l.kind l.message l.at l.met
 
 abbrev pub decreases-loop-at : goal.decreases-loop-at
 decreases-loop-at l = length l.message - l.at

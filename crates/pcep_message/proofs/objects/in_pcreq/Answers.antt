@@ -1,7 +1,0 @@
--- `pcep_message::objects::in_pcreq` meets its contract: each arm is a row of the table by class, and no other class has one.
-use native.Mathlib.Omega.{arith}
-use Rattle.pcep_laws.proofs.Table.{others_in_pcreq}
-use Rattle.pcep_message.proofs.objects.in_pcreq.Goals as goal
-
-pub returns-in_default : goal.returns-in_default
-returns-in_default c = others_in_pcreq c.args.class (λ e. omega arith) (λ e. omega arith) (λ e. omega arith) (λ e. omega arith) (λ e. omega arith) (λ e. omega arith)
