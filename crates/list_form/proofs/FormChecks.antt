@@ -3,21 +3,20 @@ use Rattle.std.specs.Prelude.{Option, Some, None}
 use mathlib.Core.Path.{◌≡◌, refl, ap, ◌∙◌}
 use mathlib.Core.Bool.{Bool, true, false, not, cond, ◌&&◌, or-false}
 use mathlib.Core.List.{List}
-use Prim.Native.Nat.{ℕ, zero, suc, ◌+◌, ◌-◌, ◌≤◌, ◌<◌}
+use Prim.Native.Nat.{ℕ, ◌+◌, ◌-◌, ◌≤◌, ◌<◌}
 use native.Mathlib.Omega.{arith}
 use lib.Dec.{eqb, leb, ltb}
 use lib.ListN.{get_or}
-use borrow.Author.Tests.{ne_eqb, lt-ltb, le-ltb}
+use borrow.Author.Tests.{lt-ltb, le-ltb}
 use Rattle.model.specs.declared.ListKind.{ListKind}
 use Rattle.model.specs.declared.Reason.{Reason}
-use Rattle.model.specs.declared.Reason.TheVariants as Reason
 use Rattle.model.specs.Verdict.{Verdict, Pass, refuse_if, ◌and_then◌, number_of}
 use Rattle.model.specs.Reserved.{nobodys}
 use Rattle.model.specs.Bytes.{number, part, all_zero}
 use Rattle.model.specs.Subobject.{plain_verdict, known, length_fits, top_wrong, prefix_wrong, padding_wrong, field_wrong, type_at, top_at, length_at, area_length_at}
 use Rattle.list_subobject.specs.Items.{Readable}
 use Rattle.refusal.specs.Refused.{refusal}
-use Rattle.list_form.specs.Checks.{head_wrong, zero_from}
+use Rattle.list_form.specs.Checks.{head_wrong}
 use Rattle.list_subobject.proofs.FormLaws.{padded}
 
 -- ---- the checks as the code makes them: those of the first three bytes together, as one reason or none
@@ -26,9 +25,9 @@ abbrev refused_by : Option Reason → ℕ → Verdict
 refused_by None at = Pass
 refused_by (Some r) at = refusal (number_of r) at
 
-pub no-reason : (o : Option Reason) → ((r : Reason) → o ≡ Some r → ⊥) → o ≡ None
-no-reason None d = refl
-no-reason (Some r) d = absurd (d r refl)
+pub no-value : {A : Type 0} (o : Option A) → ((x : A) → o ≡ Some x → ⊥) → o ≡ None
+no-value None d = refl
+no-value (Some x) d = absurd (d x refl)
 
 abbrev head_of : Bool → Bool → Bool → Bool → Option Reason
 head_of z w a e = cond (not z) (Some Reason.UnknownType) (cond w (Some Reason.LooseBit) (cond a (Some Reason.WrongField) (cond e None (Some Reason.SubobjectLength))))
@@ -98,7 +97,9 @@ module _ (k : ListKind) (s : List ℕ) (end at : ℕ) where
 -- what a subobject that lies inside the list has for padding
 module _ {s : List ℕ} {at : ℕ} (r : Readable s at) where
   -- the padding, from the place after the area up to the subobject's end
-  pub padding : type_at s at ≡ 7 → not (zero_from s (at + 4 + area_length_at s at) (at + length_at s at)) ≡ padding_wrong s at
+  pub padding
+      : type_at s at ≡ 7
+      → not (all_zero (part s (at + 4 + area_length_at s at) ((at + length_at s at) - (at + 4 + area_length_at s at)))) ≡ padding_wrong s at
   padding e =
       let p = padded r e in
       let d : (at + length_at s at) - (at + 4 + area_length_at s at) ≡ length_at s at - (4 + area_length_at s at) = omega arith in
@@ -128,6 +129,11 @@ module _ (k : ListKind) (s : List ℕ) (at : ℕ) where
   unfolding field_wrong
   field_32 e = rw e refl
 
-  pub field-none : (type_at s at ≡ 1 → ⊥) → (type_at s at ≡ 7 → ⊥) → (type_at s at ≡ 5 → ⊥) → (type_at s at ≡ 32 → ⊥) → false ≡ field_wrong k s at
+  -- types 6 and 33 have no such field
+  pub field-6 : type_at s at ≡ 6 → false ≡ field_wrong k s at
   unfolding field_wrong
-  field-none d1 d7 d5 d32 = rw (ne_eqb (type_at s at) 1 d1, ne_eqb (type_at s at) 7 d7, ne_eqb (type_at s at) 5 d5, ne_eqb (type_at s at) 32 d32) refl
+  field-6 e = rw e refl
+
+  pub field-33 : type_at s at ≡ 33 → false ≡ field_wrong k s at
+  unfolding field_wrong
+  field-33 e = rw e refl

@@ -1,3 +1,3 @@
 mod Zeros
 mod FormChecks
-mod ExrsHeads
+mod Heads

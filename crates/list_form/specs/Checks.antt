@@ -1,13 +1,8 @@
 -- The checks of a subobject's form as the code makes them, over the definitions of `model`.
-use Rattle.std.specs.Prelude.{Bool, not, cond, ◌&&◌, List, ℕ, ◌-◌, ◌%◌, eqb, leb, Option, Some, None}
+use Rattle.std.specs.Prelude.{not, cond, ◌&&◌, ℕ, ◌%◌, eqb, leb, Option, Some, None}
 use Rattle.model.specs.declared.ListKind.{ListKind}
-use Rattle.model.specs.Bytes.{part, all_zero}
 use Rattle.model.specs.declared.Reason.{Reason}
-use Rattle.model.specs.declared.Reason.TheVariants as Reason
 use Rattle.model.specs.Subobject as M
-
-abbrev pub zero_from : List ℕ → ℕ → ℕ → Bool
-zero_from s from to = all_zero (part s from (to - from))
 
 -- what is wrong with a subobject's first three bytes: the type, the top bit, the area's length, the length, in this order
 unfoldable pub head_wrong : ListKind → ℕ → ℕ → ℕ → Option Reason

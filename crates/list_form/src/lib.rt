@@ -1,14 +1,16 @@
 // The form of a subobject, check by check in document 01's order, and the form of a whole list.
 #![tactic(auto)]
 
-ghost use Rattle.std.specs.Prelude.{◌≡◌, ◌≢◌, ℕ, ◌+◌, ◌%◌, ◌≤◌, ◌<◌, length, eqb, leb, not, ◌&&◌};
+ghost use Rattle.std.specs.Prelude.{◌≡◌, ◌+◌, ◌≤◌, ◌<◌, length, eqb, leb, not, ◌&&◌, true, ℕ};
+ghost use Rattle.std.specs.List.{list_all};
 ghost use Rattle.model.specs.Verdict.{Pass};
 ghost use Rattle.model.specs.declared.ListKind.TheVariants.{Include, Exclude};
-ghost use Rattle.model.specs.Subobject.{rounded_up, type_at, plain_verdict, carried_if, subobject_verdict, form_from, form_verdict, top_wrong, prefix_wrong, field_wrong};
-ghost use Rattle.list_subobject.specs.Lengths.{length_of};
+ghost use Rattle.model.specs.Subobject.{rounded_up, known, length_fits, type_at, plain_verdict, carried_if, subobject_verdict, form_from, form_verdict, top_wrong, prefix_wrong, field_wrong};
 ghost use Rattle.list_subobject.specs.Items.{Readable};
-ghost use Rattle.list_form.specs.Checks.{zero_from, head_wrong};
+ghost use Rattle.list_subobject.specs.Types.{number_of};
+ghost use Rattle.list_form.specs.Checks.{head_wrong};
 
+use list_subobject::types::{SubobjectType, is_exrs, type_of, type_there};
 use list_subobject::walk::next_after;
 use model::{ListKind, Reason, Verdict};
 use profile_reserved::as_nobodys;
@@ -22,27 +24,27 @@ fn rounded_up(n: u8) -> u32
     (n as u32 + 3) / 4 * 4
 }
 
-// The length of a subobject that both lists know, by its type and its area's length, 0 where the type isn't one of those. By tests, since a table in memory would
-// be laid out anew for each subobject.
-fn length_of(t: u8, area: u8) -> u32
-    ensures { result ≡ length_of Exclude t area }
+// The list knows the type: only an include list knows EXRS.
+fn known(kind: ListKind, t: SubobjectType) -> bool
+    ensures { result ≡ known kind (number_of t) }
 {
-    if t == 1 {
-        return 8;
+    match kind {
+        ListKind::Include => true,
+        ListKind::Exclude => !matches!(t, SubobjectType::Exrs),
     }
-    if t == 5 {
-        return 8;
+}
+
+// A subobject of a known type may be this long, by its area's length. An EXRS may be longer than its head.
+fn length_fits(kind: ListKind, t: SubobjectType, area: u8, length: u8) -> bool
+    requires { known kind (number_of t) ≡ true }
+    ensures { result ≡ length_fits kind (number_of t) area length }
+{
+    match t {
+        SubobjectType::Prefix | SubobjectType::WideSystem | SubobjectType::OspfArea => length == 8,
+        SubobjectType::IsisArea => length as u32 == 4 + rounded_up(area),
+        SubobjectType::System => length == 4,
+        SubobjectType::Exrs => 4 <= length,
     }
-    if t == 6 {
-        return 8;
-    }
-    if t == 7 {
-        return 4 + rounded_up(area);
-    }
-    if t == 32 {
-        return 4;
-    }
-    0
 }
 
 // L set in an include list.
@@ -55,19 +57,11 @@ fn top_wrong(kind: ListKind, top: bool) -> bool
     }
 }
 
-// The bytes from `from` up to `to` are all zero.
-fn all_zero(list: &[u8], from: usize, to: usize) -> bool
-    requires { (from ≤ to) × (to ≤ length list.now) }
-    ensures { result ≡ zero_from list.now from to }
+// The bytes are all zero.
+fn all_zero(bytes: &[u8]) -> bool
+    ensures { result ≡ list_all (λ (x : ℕ). eqb x 0) bytes.now }
 {
-    let mut i = from;
-    while i < to {
-        if list[i] != 0 {
-            return false;
-        }
-        i += 1;
-    }
-    true
+    bytes.iter().all(|byte| *byte == 0)
 }
 
 // The prefix length, and in an exclude list the attribute, of a type 1 subobject.
@@ -78,29 +72,15 @@ fn prefix_wrong(kind: ListKind, list: &[u8], at: usize) -> bool
     let bits = list[at + 6];
     match kind {
         ListKind::Include => bits != 32,
-        ListKind::Exclude => {
-            if 32 < bits {
-                return true;
-            }
-            list[at + 7] != 1
-        }
+        ListKind::Exclude => 32 < bits || list[at + 7] != 1,
     }
 }
 
-// The area length of type 7 isn't 1 to 13.
-fn area_wrong(t: u8, area: u8) -> bool
-    ensures { result ≡ (eqb t 7 && not (leb 1 area && leb area 13)) }
+// The length of an IS-IS area isn't 1 to 13.
+fn area_wrong(t: SubobjectType, area: u8) -> bool
+    ensures { result ≡ (eqb (number_of t) 7 && not (leb 1 area && leb area 13)) }
 {
-    if t != 7 {
-        return false;
-    }
-    if area < 1 {
-        return true;
-    }
-    if 13 < area {
-        return true;
-    }
-    false
+    t == SubobjectType::IsisArea && !(1 <= area && area <= 13)
 }
 
 // A field out of range, an AS that is nobody's among them, or padding that isn't zero, in a subobject of right length.
@@ -108,51 +88,27 @@ fn field_wrong(kind: ListKind, list: &[u8], at: usize) -> bool
     requires { Readable list.now at }
     ensures { result ≡ field_wrong kind list.now at }
 {
-    let t = list[at] % 128;
-    if t == 1 {
-        return prefix_wrong(kind, list, at);
-    }
-    if t == 7 {
-        let start = at + 4 + wide(list[at + 2]);
-        return !all_zero(list, start, at + wide(list[at + 1]));
-    }
-    if t == 5 {
-        return as_nobodys(u32_at(list, at + 4));
-    }
-    if t == 32 {
-        return as_nobodys(u16_at(list, at + 2) as u32);
-    }
-    false
-}
-
-// What is wrong with the first bytes of an EXRS, which only an include list knows: the type, L, a length under 4.
-fn exrs_head_wrong(kind: ListKind, first: u8, n: u8) -> Option<Reason>
-    requires { first % 128 ≡ 33 }
-    ensures { (area : ℕ) → result ≡ head_wrong kind first n area }
-{
-    match kind {
-        ListKind::Exclude => Some(Reason::UnknownType),
-        ListKind::Include => {
-            if 128 <= first {
-                return Some(Reason::LooseBit);
-            }
-            if n < 4 {
-                return Some(Reason::SubobjectLength);
-            }
-            None
+    match type_there(list, at) {
+        SubobjectType::Prefix => prefix_wrong(kind, list, at),
+        SubobjectType::WideSystem => as_nobodys(u32_at(list, at + 4)),
+        SubobjectType::IsisArea => {
+            let padding = at + 4 + wide(list[at + 2]);
+            let end = at + wide(list[at + 1]);
+            !all_zero(&list[padding..end])
         }
+        SubobjectType::System => as_nobodys(u16_at(list, at + 2) as u32),
+        SubobjectType::OspfArea | SubobjectType::Exrs => false,
     }
 }
 
-// And with those of any other subobject.
-fn plain_head_wrong(kind: ListKind, first: u8, n: u8, area: u8) -> Option<Reason>
-    requires { first % 128 ≢ 33 }
-    ensures { result ≡ head_wrong kind first n area }
+// What is wrong with a subobject's first three bytes, in document 01's order.
+fn head_wrong(kind: ListKind, first: u8, length: u8, area: u8) -> Option<Reason>
+    ensures { result ≡ head_wrong kind first length area }
 {
-    let t = first % 128;
-    let size = n as u32;
-    let wanted = length_of(t, area);
-    if wanted == 0 {
+    let Some(t) = type_of(first) else {
+        return Some(Reason::UnknownType);
+    };
+    if !known(kind, t) {
         return Some(Reason::UnknownType);
     }
     if top_wrong(kind, 128 <= first) {
@@ -161,20 +117,10 @@ fn plain_head_wrong(kind: ListKind, first: u8, n: u8, area: u8) -> Option<Reason
     if area_wrong(t, area) {
         return Some(Reason::WrongField);
     }
-    if size != wanted {
+    if !length_fits(kind, t, area, length) {
         return Some(Reason::SubobjectLength);
     }
     None
-}
-
-// What is wrong with a subobject's first three bytes, in document 01's order.
-fn head_wrong(kind: ListKind, first: u8, n: u8, area: u8) -> Option<Reason>
-    ensures { result ≡ head_wrong kind first n area }
-{
-    if first % 128 == 33 {
-        return exrs_head_wrong(kind, first, n);
-    }
-    plain_head_wrong(kind, first, n, area)
 }
 
 // The form of the subobject at an offset, but for what an EXRS carries; what holds it ends at `end`.
@@ -217,7 +163,7 @@ fn carried_at(list: &[u8], at: usize) -> Verdict
     requires { (plain_verdict Include list.now (length list.now) at ≡ Pass) × (length list.now ≤ 1024) }
     ensures { result ≡ carried_if (eqb (type_at list.now at) 33) list.now at }
 {
-    if list[at] % 128 != 33 {
+    if !is_exrs(list[at]) {
         return Ok(());
     }
     let end = next_after(list, at);

@@ -1,2 +1,2 @@
-pub mod Lengths
 pub mod Items
+pub mod Types

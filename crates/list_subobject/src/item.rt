@@ -3,6 +3,7 @@ ghost use Rattle.std.specs.Prelude.{◌≡◌, ◌+◌, ◌<◌};
 ghost use Rattle.model.specs.Subobject.{length_at};
 ghost use Rattle.list_subobject.specs.Items.{Readable, NamedIs, ItemAt};
 
+use crate::types::{SubobjectType, type_there};
 use model::NodeAddress;
 use wire::{u16_at, u32_at, wide};
 
@@ -41,39 +42,32 @@ fn named_at(list: &[u8], at: usize) -> Named
     requires { Readable list.now at }
     ensures { NamedIs list.now at result }
 {
-    let t = list[at] % 128;
-    if t == 1 {
-        let address = NodeAddress(u32_at(list, at + 2));
-        let bits = list[at + 6];
-        return Named::Prefix { address, bits };
-    }
-    if t == 5 {
-        return Named::System {
+    match type_there(list, at) {
+        SubobjectType::Prefix => Named::Prefix {
+            address: NodeAddress(u32_at(list, at + 2)),
+            bits: list[at + 6],
+        },
+        SubobjectType::WideSystem => Named::System {
             asn: u32_at(list, at + 4),
-        };
-    }
-    let start = at + 4;
-    if t == 6 {
-        return Named::Area {
+        },
+        SubobjectType::OspfArea => Named::Area {
             kind: 1,
-            start,
+            start: at + 4,
             count: 4,
-        };
-    }
-    if t == 7 {
-        let count = wide(list[at + 2]);
-        return Named::Area {
+        },
+        SubobjectType::IsisArea => Named::Area {
             kind: 2,
-            start,
-            count,
-        };
+            start: at + 4,
+            count: wide(list[at + 2]),
+        },
+        SubobjectType::Exrs => Named::Exrs {
+            start: at,
+            count: wide(list[at + 1]),
+        },
+        SubobjectType::System => Named::System {
+            asn: u16_at(list, at + 2) as u32,
+        },
     }
-    if t == 33 {
-        let count = wide(list[at + 1]);
-        return Named::Exrs { start: at, count };
-    }
-    let asn = u16_at(list, at + 2) as u32;
-    Named::System { asn }
 }
 
 // Where the subobject after the one at an offset starts. Type 1 has the same length always; to know it without a look makes a long list faster.
@@ -81,7 +75,7 @@ pub(crate) fn next_at(list: &[u8], at: usize) -> usize
     requires { Readable list.now at }
     ensures { result ≡ at + length_at list.now at }
 {
-    if list[at] % 128 == 1 {
+    if list[at] % 128 == SubobjectType::Prefix as u8 {
         return at + 8;
     }
     at + wide(list[at + 1])
@@ -92,13 +86,10 @@ pub(crate) fn item_at(list: &[u8], at: usize) -> Item
     requires { Readable list.now at }
     ensures { ItemAt list.now at result }
 {
-    let named = named_at(list, at);
-    let next = next_at(list, at);
-    let top = 128 <= list[at];
     Item {
         offset: at,
-        top,
-        named,
-        next,
+        top: 128 <= list[at],
+        named: named_at(list, at),
+        next: next_at(list, at),
     }
 }

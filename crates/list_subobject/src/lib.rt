@@ -2,4 +2,5 @@
 #![tactic(auto)]
 
 pub mod item;
+pub mod types;
 pub mod walk;

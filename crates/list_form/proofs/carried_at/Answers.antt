@@ -35,10 +35,10 @@ long c = let s = c.args.list.now in let at = c.args.at in length-least Include (
 pub bounds-list-at : goal.bounds-list-at
 bounds-list-at c = omega (arith, (there (goal.at.bounds-list-at c).Start).long)
 
-pub returns-then-list-at-ne33 : goal.returns-then-list-at-ne33
-returns-then-list-at-ne33 c =
+pub returns-then-not-is_exrs : goal.returns-then-not-is_exrs
+returns-then-not-is_exrs c =
     let a = c.args in
-    sym (ap (λ (b : Bool). carried_if b a.list.now a.at) (ne_eqb (type_at a.list.now a.at) 33 c.if-list-at-ne33.true))
+    sym (ap (λ (b : Bool). carried_if b a.list.now a.at) (sym c.is_exrs.ensures ∙ c.if-not-is_exrs.true))
 
 pub next_after-end-requires : goal.next_after-end-requires
 next_after-end-requires c = there (goal.at.next_after-end-requires c).Start
@@ -56,7 +56,7 @@ returns-then-end-inside c =
     let e = c.if-end-inside.true in
     c.refuse_at.ensures
     ∙ sym
-    (ap (λ (b : Bool). carried_if b a.list.now a.at) (eq-eqb (type_at a.list.now a.at) 33 c.if-list-at-ne33.false)
+    (ap (λ (b : Bool). carried_if b a.list.now a.at) (sym c.is_exrs.ensures ∙ c.if-not-is_exrs.false)
     ∙ nothing-inside a.list.now a.at (omega arith))
 
 pub inside_form-requires : goal.inside_form-requires
@@ -72,5 +72,5 @@ returns c =
     c.inside_form.ensures
     ∙ ap (λ (end : ℕ). form_from Exclude a.list.now end (a.at + 4)) n
     ∙ sym
-    (ap (λ (b : Bool). carried_if b a.list.now a.at) (eq-eqb (type_at a.list.now a.at) 33 c.if-list-at-ne33.false)
+    (ap (λ (b : Bool). carried_if b a.list.now a.at) (sym c.is_exrs.ensures ∙ c.if-not-is_exrs.false)
     ∙ some-inside a.list.now a.at (λ q. e (omega arith)))

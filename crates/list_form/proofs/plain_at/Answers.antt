@@ -1,10 +1,10 @@
 -- `list_form::plain_at` meets its contract: the tests that led to each `return` are the checks of `plain_verdict` in their order.
 use Rattle.std.specs.Prelude.{None}
-use Prim.Native.Nat.{ℕ, ◌+◌, ◌≤◌}
-use mathlib.Core.Path.{◌≡◌, sym, ap, ◌∙◌}
+use Prim.Native.Nat.{◌+◌, ◌≤◌}
+use mathlib.Core.Path.{◌≡◌, sym, ◌∙◌}
 use native.Mathlib.Omega.{arith}
 use Rattle.model.specs.Subobject.{length_at}
-use Rattle.list_form.proofs.FormChecks.{head, no-reason, head-fits, short, bad_head, past_end, by_field}
+use Rattle.list_form.proofs.FormChecks.{head, no-value, head-fits, short, bad_head, past_end, by_field}
 use Rattle.list_form.proofs.plain_at.Goals as goal
 use Rattle.list_form.proofs.plain_at.Goals.{Else-left-lt4, Else-left-wide, In_default}
 
@@ -13,7 +13,7 @@ four : (c : Else-left-lt4) → c.args.at + 4 ≤ c.args.end
 four c = omega arith
 
 right-head : (c : In_default) → let a = c.args in head a.kind a.list.now a.end a.at ≡ None
-right-head c = sym c.head_wrong.ensures ∙ no-reason c.head_wrong.result c.in_default.not-Some
+right-head c = sym c.head_wrong.ensures ∙ no-value c.head_wrong.result c.in_default.not-Some
 
 in_list : (c : Else-left-wide) → let a = c.args in a.at + length_at a.list.now a.at ≤ a.end
 in_list c =

@@ -10,10 +10,10 @@ returns c =
     let a = c.args in
     let s = a.list.now in
     let h = c.requires in
-    let n = c.next_at-next.ensures in
+    let n = c.next_at.ensures in
     let l = length-least h.kind (type_at s a.at) (area_length_at s a.at) (length_at s a.at) h.fits in
     let i = h.inside in
-    let named = c.named_at-named.ensures in
+    let named = c.named_at.ensures in
     record {
       offset = refl;
       top = refl;

@@ -4,6 +4,6 @@ use Prim.Native.Nat.{ℕ, ◌+◌}
 use Rattle.list_subobject.proofs.FormLaws.{long_1}
 use Rattle.list_subobject.proofs.item.next_at.Goals as goal
 
-pub returns-then-list-at-eq1 : goal.returns-then-list-at-eq1
-returns-then-list-at-eq1 c =
-    ap (λ (n : ℕ). c.args.at + n) (sym (long_1 c.requires c.if-list-at-eq1.true))
+pub returns-then-list-at : goal.returns-then-list-at
+returns-then-list-at c =
+    ap (λ (n : ℕ). c.args.at + n) (sym (long_1 c.requires c.if-list-at.true))
