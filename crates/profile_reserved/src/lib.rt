@@ -1,10 +1,9 @@
 // The reserved ranges of AS numbers (RFC 5398) and of addresses (RFC 5737), and what the two classes of profile ask; the AS numbers that are nobody's.
 #![tactic(auto)]
 
-ghost use Rattle.std.specs.Prelude.{◌≡◌, cond, not, ◌≤◌, eqb};
-ghost use Rattle.std.proofs.Math.Seq.{slice};
-ghost use Rattle.model.specs.Reserved.{as_ranges, address_ranges, in_ranges, misplaced, nobodys};
-ghost use Rattle.profile_reserved.specs.Table.{reserved};
+ghost use Rattle.std.specs.Prelude.{◌≡◌, cond, not, ◌&&◌, eqb, leb};
+ghost use Rattle.std.specs.List.{list_any};
+ghost use Rattle.model.specs.Reserved.{as_ranges, address_ranges, misplaced, nobodys};
 
 use model::NodeAddress;
 
@@ -39,22 +38,19 @@ const RESERVED: [Range; 5] = [
     },
 ];
 
-// Whether x lies in one of the table's ranges from `from` up to `to`.
-fn lies_in(from: usize, to: usize, x: u32) -> bool
-    requires { (from ≤ to) × (to ≤ 5) }
-    ensures { result ≡ in_ranges (slice from to reserved) x }
-{
-    let mut i = from;
-    while i < to {
-        let range = RESERVED[i];
-        if range.first <= x {
-            if x <= range.last {
-                return true;
-            }
-        }
-        i += 1;
+impl Range {
+    fn contains(self, x: u32) -> bool
+        ensures { result ≡ leb self.first x && leb x self.last }
+    {
+        (self.first <= x) & (x <= self.last)
     }
-    false
+}
+
+// Whether x lies in one of these ranges.
+fn lies_in(ranges: &[Range], x: u32) -> bool
+    ensures { result ≡ list_any (λ (r : Range). leb r.first x && leb x r.last) ranges.now }
+{
+    ranges.iter().any(|range| range.contains(x))
 }
 
 // What the class asks of a number that lies inside the ranges or not: wrong outside them in class 0, and inside them in class 1.
@@ -71,16 +67,14 @@ fn misplaced_by(class: u8, inside: bool) -> bool
 pub fn as_misplaced(class: u8, x: u32) -> bool
     ensures { result ≡ misplaced class as_ranges x }
 {
-    let inside = lies_in(0, 2, x);
-    misplaced_by(class, inside)
+    misplaced_by(class, lies_in(&RESERVED[..2], x))
 }
 
 // An address from the wrong ranges.
 pub fn address_misplaced(class: u8, x: NodeAddress) -> bool
     ensures { result ≡ misplaced class address_ranges x.0 }
 {
-    let inside = lies_in(2, 5, x.0);
-    misplaced_by(class, inside)
+    misplaced_by(class, lies_in(&RESERVED[2..], x.0))
 }
 
 // AS 0 (RFC 7607) and AS_TRANS, 23456 (RFC 6793), in no class and in no list.

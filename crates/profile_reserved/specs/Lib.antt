@@ -1,2 +1,0 @@
--- The name that the contracts of this crate cite.
-pub mod Table
