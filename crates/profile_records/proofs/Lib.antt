@@ -1,5 +1,4 @@
-mod SameAreas
-mod Areas
+mod SameBytes
 pub mod Fields
 pub mod Layouts
 pub mod AcceptedHops

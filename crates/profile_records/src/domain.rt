@@ -10,12 +10,8 @@ fn area_at(s: &[u8], at: usize) -> [u8; 13]
     requires { at + 13 ≤ length s.now }
     ensures { result ≡ part s.now at 13 }
 {
-    let mut area = [0u8; 13];
-    let mut j = 0;
-    while j < 13 {
-        area[j] = s[at + j];
-        j += 1;
-    }
+    let mut area = [0; 13];
+    area.copy_from_slice(&s[at..at + 13]);
     area
 }
 
