@@ -1,6 +1,6 @@
 -- The outcomes of `write_pcrep`: 37, 21, 34, or the message. By which of the checks of `write_verdict` refuses, in terms of the message's length.
-use Rattle.std.specs.Prelude.{Err}
-use Prim.Native.Nat.{ℕ, min, ◌+◌, ◌*◌}
+use Rattle.std.specs.Prelude.{Result, Ok, Err}
+use Prim.Native.Nat.{ℕ, ◌+◌, ◌*◌}
 use native.Mathlib.Nat.{zero-add}
 use native.Mathlib.Omega.{arith}
 use mathlib.Core.Path.{◌≡◌, refl, sym, ap, ap₂, ◌∙◌}
@@ -11,8 +11,6 @@ use lib.Dec.{eqb, ltb}
 use lib.ListN.{length, drop}
 use borrow.Author.Tests.{eqb-true, ltb-true, ltb-false, lt-ltb, not-false}
 use Rattle.model.specs.declared.Refusal.{Refusal}
-use Rattle.model.specs.declared.WriteAnswer.{WriteAnswer}
-use Rattle.model.specs.declared.WriteAnswer.TheVariants.{Written, Refused}
 use Rattle.model.specs.Lists.{any, over}
 use Rattle.model.specs.Verdict.{Verdict, Pass, refuse_if, ◌and_then◌}
 use Rattle.model.specs.Answers.{numbers_of_write, refused2, done2}
@@ -24,7 +22,7 @@ use Rattle.buffers.specs.Placed.{Put}
 use Rattle.pcep_model.specs.Metrics.{Metric, out_of_range}
 use Rattle.pcep_model.specs.Pcrep.{Reply, metrics_of, apart, written_pcrep, write_verdict, write_pcrep}
 use Rattle.pcep_laws.proofs.WrittenLength.{written-length}
-use Rattle.pcep_reply_writer.specs.Lengths.{route_length, message_length, Together}
+use Rattle.pcep_reply_writer.specs.Lengths.{capped, route_length, message_length, Together}
 use Rattle.pcep_reply_writer.proofs.Runs.{metrics-count}
 use Rattle.pcep_reply_writer.specs.Writing.{reply_of, reply_verdict, Fits, WrittenReply}
 
@@ -35,20 +33,20 @@ module _ (r : Reply) (unequal : Bool) (entry : List ℕ) where
   unfolding write_pcrep
   outcome v e = ap (λ (x : Verdict). answer_write x (written_pcrep r)) e
 
-  by_outcome : (exit : List ℕ) (answer : WriteAnswer) (o : Outcome ℕ) → write_pcrep r unequal (length entry) ≡ o
+  by_outcome : (exit : List ℕ) (answer : Result ℕ Refusal) (o : Outcome ℕ) → write_pcrep r unequal (length entry) ≡ o
       → numbers_of_write answer ≡ o.numbers → exit ≡ over o.written entry → WrittenReply r unequal entry exit answer
   by_outcome exit answer o e n b =
       record { numbers = n ∙ ap (λ (x : Outcome ℕ). x.numbers) (sym e); buffer = b ∙ ap (λ (x : Outcome ℕ). over x.written entry) (sym e) }
 
-  refused : (x : Refusal) → write_verdict r unequal (length entry) ≡ Err x → WrittenReply r unequal entry entry (Refused x)
-  refused x e = by_outcome entry (Refused x) (nothing (refused2 x)) (outcome (Err x) e) refl (sym (over_nothing entry))
+  refused : (x : Refusal) → write_verdict r unequal (length entry) ≡ Err x → WrittenReply r unequal entry entry (Err x)
+  refused x e = by_outcome entry (Err x) (nothing (refused2 x)) (outcome (Err x) e) refl (sym (over_nothing entry))
 
   all_written
       : (exit : List ℕ) (n after : ℕ) → write_verdict r unequal (length entry) ≡ Pass → n ≡ length (written_pcrep r)
-      → Put 0 (written_pcrep r) entry exit after → WrittenReply r unequal entry exit (Written n)
+      → Put 0 (written_pcrep r) entry exit after → WrittenReply r unequal entry exit (Ok n)
   unfolding over
   all_written exit n after e l p =
-      by_outcome exit (Written n) (record { numbers = done2 (length (written_pcrep r)); written = written_pcrep r })
+      by_outcome exit (Ok n) (record { numbers = done2 (length (written_pcrep r)); written = written_pcrep r })
       (outcome Pass e)
       (ap done2 l)
       (p.holds ∙ ap (λ (m : ℕ). written_pcrep r ++ drop m entry) (zero-add (length (written_pcrep r))))
@@ -77,8 +75,8 @@ equal_counts kinds flags values e =
 abbrev checks : Bool → ℕ → Bool → ℕ → Verdict
 checks unequal size wrong room = refuse_if (unequal || ltb 65535 size) 37 0 and_then refuse_if wrong 21 1 and_then room_verdict size room
 
--- a length over 65536 can be told as 65536
-cut : (unequal wrong : Bool) (long size room : ℕ) → size ≡ min 65536 long → checks unequal long wrong room ≡ checks unequal size wrong room
+-- a length that no number of 64 bits holds can be told as the greatest
+cut : (unequal wrong : Bool) (long size room : ℕ) → size ≡ capped long → checks unequal long wrong room ≡ checks unequal size wrong room
 cut true wrong long size room told = refl
 cut false wrong long size room told =
     ⊎_elim
@@ -88,7 +86,7 @@ cut false wrong long size room told =
 
 -- what passes the checks
 passed-fits
-    : (found : Bool) (addresses kinds flags values out : List ℕ) (size : ℕ) → size ≡ min 65536 (message_length found (length addresses) (length kinds))
+    : (found : Bool) (addresses kinds flags values out : List ℕ) (size : ℕ) → size ≡ capped (message_length found (length addresses) (length kinds))
     → reply_verdict size (length kinds) (length flags) values (length out) ≡ Pass → Fits found addresses kinds flags values out size
 passed-fits found addresses kinds flags values out size told p =
     let three = (and_then-refuse_if _ (ltb (length out) size) 34 0).0 p in
@@ -113,16 +111,16 @@ module _ (id flags : ℕ) (found : Bool) (addresses : List ℕ) (nature : ℕ) (
   unfolding write_verdict
   apart_judged size room e = rw e refl
 
-  together_judged : (size room : ℕ) → size ≡ min 65536 long → Together kinds metric_flags values
+  together_judged : (size room : ℕ) → size ≡ capped long → Together kinds metric_flags values
       → write_verdict reply (apart kinds metric_flags values) room ≡ reply_verdict size (length kinds) (length metric_flags) values room
   unfolding write_verdict
   together_judged size room told t =
       ap₂ (λ (n : ℕ) (b : Bool). checks (apart kinds metric_flags values) n b room) (reply-length t) (values-range kinds metric_flags values t.as_many_flags t.as_many_values)
       ∙ cut (apart kinds metric_flags values) (any out_of_range values) long size room told
 
-  -- the definition's checks are the code's, whose length is cut at 65536
+  -- the definition's checks are the code's, whose length is cut at the greatest number
   judged
-      : (size room : ℕ) → size ≡ min 65536 long
+      : (size room : ℕ) → size ≡ capped long
       → write_verdict reply (apart kinds metric_flags values) room ≡ reply_verdict size (length kinds) (length metric_flags) values room
   judged size room told =
       ⊎_elim
@@ -131,18 +129,18 @@ module _ (id flags : ℕ) (found : Bool) (addresses : List ℕ) (nature : ℕ) (
       (decide (apart kinds metric_flags values))
 
   -- the verdict that the code finds, and what follows from it
-  module _ (entry : List ℕ) (size : ℕ) (told : size ≡ min 65536 long) (v : Verdict) (e : v ≡ reply_verdict size (length kinds) (length metric_flags) values (length entry)) where
+  module _ (entry : List ℕ) (size : ℕ) (told : size ≡ capped long) (v : Verdict) (e : v ≡ reply_verdict size (length kinds) (length metric_flags) values (length entry)) where
     pub fits : v ≡ Pass → Fits found addresses kinds metric_flags values entry size
     fits p = passed-fits found addresses kinds metric_flags values entry size told (sym e ∙ p)
 
     same : write_verdict reply (apart kinds metric_flags values) (length entry) ≡ v
     same = judged size (length entry) told ∙ sym e
 
-    pub refused-reply : (x : Refusal) → v ≡ Err x → WrittenReply reply (apart kinds metric_flags values) entry entry (Refused x)
+    pub refused-reply : (x : Refusal) → v ≡ Err x → WrittenReply reply (apart kinds metric_flags values) entry entry (Err x)
     refused-reply x r = refused reply (apart kinds metric_flags values) entry x (same ∙ r)
 
     pub written-reply : v ≡ Pass → (exit : List ℕ) (after : ℕ) → Put 0 (written_pcrep reply) entry exit after
-        → WrittenReply reply (apart kinds metric_flags values) entry exit (Written size)
+        → WrittenReply reply (apart kinds metric_flags values) entry exit (Ok size)
     written-reply p exit after put =
         let f = fits p in
         all_written reply (apart kinds metric_flags values) entry exit size after (same ∙ p) (f.told ∙ sym (reply-length f.together)) put

@@ -1,6 +1,6 @@
 -- What the parts of `write_pcrep` promise, over the definitions of `pcep_model`.
-use Rattle.std.specs.Prelude.{◌≡◌, Bool, not, ◌||◌, List, ℕ, ◌≤◌, eqb, ltb, length}
-use Rattle.model.specs.declared.WriteAnswer.{WriteAnswer}
+use Rattle.std.specs.Prelude.{◌≡◌, Bool, not, ◌||◌, List, ℕ, ◌≤◌, eqb, ltb, length, Result}
+use Rattle.model.specs.declared.Refusal.{Refusal}
 use Rattle.model.specs.Lists.{any, over}
 use Rattle.model.specs.Verdict.{Verdict, refuse_if, ◌and_then◌}
 use Rattle.model.specs.Answers.{numbers_of_write}
@@ -41,6 +41,6 @@ pub record Fits (found : Bool) (addresses kinds flags values out : List ℕ) (si
   pub together : Together kinds flags values
 
 -- the numbers answered and the buffer at exit are those of the definition
-pub record WrittenReply (reply : Reply) (unequal : Bool) (entry exit : List ℕ) (answer : WriteAnswer) : Type 0 where
+pub record WrittenReply (reply : Reply) (unequal : Bool) (entry exit : List ℕ) (answer : Result ℕ Refusal) : Type 0 where
   pub numbers : numbers_of_write answer ≡ (write_pcrep reply unequal (length entry)).numbers
   pub buffer : exit ≡ over (write_pcrep reply unequal (length entry)).written entry

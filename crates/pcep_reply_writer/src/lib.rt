@@ -1,88 +1,64 @@
 // `write_pcrep`: the PCRep for a path's addresses or for none, and METRICs.
 #![tactic(auto)]
 
-ghost use Rattle.std.specs.Prelude.{◌≡◌, min, length};
+ghost use Rattle.std.specs.Prelude.{◌≡◌, length};
 ghost use Rattle.model.specs.Lists.{any};
 ghost use Rattle.buffers.specs.Placed.{Put};
 ghost use Rattle.pcep_model.specs.Metrics.{out_of_range};
 ghost use Rattle.pcep_model.specs.Pcrep.{written_pcrep, apart};
-ghost use Rattle.pcep_reply_writer.specs.Lengths.{route_length, message_length};
+ghost use Rattle.pcep_reply_writer.specs.Lengths.{capped, route_length, message_length};
 ghost use Rattle.pcep_reply_writer.specs.Writing.{reply_of, malformed_reply, reply_verdict, Fits, WrittenReply};
 
 use crate::parts::{put_head, put_metrics, put_route};
-use model::{Verdict, WriteAnswer};
-use refusal::refuse;
+use model::{Reason, Refusal, Verdict};
+use refusal::refuse_if;
 
 pub mod parts;
 
-// The length of the ERO or the NO-PATH, 65536 for any that is longer.
+// The length of the ERO or the NO-PATH, or the greatest number where it is more.
 fn route_length(found: bool, addresses: usize) -> usize
-    ensures { result ≡ min 65536 (route_length found addresses) }
+    ensures { result ≡ capped (route_length found addresses) }
 {
     if found {
-        if 8191 < addresses {
-            return 65536;
-        }
-        return 4 + 8 * addresses;
+        return addresses.saturating_mul(8).saturating_add(4);
     }
     8
 }
 
-// The length of the message, 65536 for any that is longer.
+// The length of the message, or the greatest number where it is more.
 fn message_length(found: bool, addresses: usize, metrics: usize) -> usize
-    ensures { result ≡ min 65536 (message_length found addresses metrics) }
+    ensures { result ≡ capped (message_length found addresses metrics) }
 {
-    if 5460 < metrics {
-        return 65536;
-    }
-    let whole = 16 + route_length(found, addresses) + 12 * metrics;
-    if 65536 < whole {
-        return 65536;
-    }
-    whole
+    route_length(found, addresses)
+        .saturating_add(16)
+        .saturating_add(metrics.saturating_mul(12))
 }
 
 // A METRIC's value is out of range: its bits are 0x7F800000 or more.
 fn out_of_range(values: &[u32]) -> bool
     ensures { result ≡ any out_of_range values.now }
 {
-    let mut i = 0;
-    while i < values.len() {
-        if 0x7f800000 <= values[i] {
-            return true;
-        }
-        i += 1;
-    }
-    false
+    values.iter().any(|value| 0x7f800000 <= *value)
 }
 
 // The METRIC lists don't belong together, or the message is too long.
 fn malformed(size: usize, kinds: usize, flags: usize, values: usize) -> bool
     ensures { result ≡ malformed_reply size kinds flags values }
 {
-    if flags != kinds {
-        return true;
-    }
-    if values != kinds {
-        return true;
-    }
-    65535 < size
+    flags != kinds || values != kinds || 65535 < size
 }
 
 // 37, 21, then 34.
 fn reply_verdict(size: usize, kinds: usize, flags: usize, values: &[u32], room: usize) -> Verdict
     ensures { result ≡ reply_verdict size kinds flags values.now room }
 {
-    if malformed(size, kinds, flags, values.len()) {
-        return refuse(37, 0);
-    }
-    if out_of_range(values) {
-        return refuse(21, 1);
-    }
-    if room < size {
-        return refuse(34, 0);
-    }
-    Verdict::Pass
+    refuse_if(
+        malformed(size, kinds, flags, values.len()),
+        Reason::WrongObject,
+        0,
+    )?;
+    refuse_if(out_of_range(values), Reason::FloatOutOfRange, 1)?;
+    refuse_if(room < size, Reason::LittleRoom, 0)
 }
 
 // The message into the start of a buffer that has room for it. Its length is the answer.
@@ -119,31 +95,24 @@ pub fn write_pcrep(
     metric_flags: &[u8],
     values: &[u32],
     out: &mut [u8],
-) -> WriteAnswer
+) -> Result<u32, Refusal>
     ensures { WrittenReply (reply_of id flags found addresses.now nature c kinds.now metric_flags.now values.now) (apart kinds.now metric_flags.now values.now) out.old out.new result }
 {
     let count = kinds.len();
     let size = message_length(found, addresses.len(), count);
-    let verdict = reply_verdict(size, count, metric_flags.len(), values, out.len());
-    match verdict {
-        Verdict::Pass => {
-            put_reply(
-                id,
-                flags,
-                found,
-                addresses,
-                nature,
-                c,
-                kinds,
-                metric_flags,
-                values,
-                out,
-                size,
-            );
-            WriteAnswer::Written {
-                length: size as u32,
-            }
-        }
-        Verdict::Refuse(r) => WriteAnswer::Refused(r),
-    }
+    reply_verdict(size, count, metric_flags.len(), values, out.len())?;
+    put_reply(
+        id,
+        flags,
+        found,
+        addresses,
+        nature,
+        c,
+        kinds,
+        metric_flags,
+        values,
+        out,
+        size,
+    );
+    Ok(size as u32)
 }

@@ -48,14 +48,12 @@ fn put_steps(out: &mut [u8], start: usize, addresses: &[u32]) -> usize
     requires { start + 8 * length addresses.now ≤ length out.old }
     ensures { Put start (each written_step addresses.now) out.old out.new result }
 {
-    if addresses.len() == 0 {
+    if addresses.is_empty() {
         return start;
     }
     let mut at = put_first(out, start, addresses[0]);
-    let mut i = 1;
-    while i < addresses.len() {
+    for i in 1..addresses.len() {
         at = put_next(out, at, addresses[i]);
-        i += 1;
     }
     put_u16(out, at, 0x2000);
     at + 2
@@ -76,10 +74,7 @@ fn put_ero(out: &mut [u8], at: usize, addresses: &[u32]) -> usize
 fn flags_of(c: bool) -> u16
     ensures { (result ≡ 128 * mark c) × (result ≤ 128) }
 {
-    if c {
-        return 128;
-    }
-    0
+    if c { 128 } else { 0 }
 }
 
 // A NO-PATH.
@@ -107,9 +102,10 @@ pub fn put_route(
     ensures { Put at (cond found (written_ero addresses.now) (written_no_path nature c)) out.old out.new result }
 {
     if found {
-        return put_ero(out, at, addresses);
+        put_ero(out, at, addresses)
+    } else {
+        put_no_path(out, at, nature, c)
     }
-    put_no_path(out, at, nature, c)
 }
 
 // One METRIC, the value stored first, as the addresses are.
@@ -136,10 +132,8 @@ pub fn put_metrics(
     ensures { Put start (each written_metric (metrics_of kinds.now flags.now values.now)) out.old out.new result }
 {
     let mut at = start;
-    let mut i = 0;
-    while i < kinds.len() {
+    for i in 0..kinds.len() {
         at = put_metric(out, at, kinds[i], flags[i], values[i]);
-        i += 1;
     }
     at
 }

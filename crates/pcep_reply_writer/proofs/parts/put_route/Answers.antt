@@ -10,5 +10,5 @@ returns-then-found c = rw c.if-found.true c.put_ero.ensures
 pub put_no_path-requires : goal.put_no_path-requires
 put_no_path-requires c = (rw c.if-found.false at c.requires).0
 
-pub returns : goal.returns
-returns c = rw c.if-found.false c.put_no_path.ensures
+pub returns-else-found : goal.returns-else-found
+returns-else-found c = rw c.if-found.false c.put_no_path.ensures
