@@ -12,8 +12,7 @@ use lib.Seq.{drop-cons, drop-drop, take-suc, length-take-le}
 use lib.Dec.{eqb, ltb, leb}
 use borrow.Author.Tests.{eqb-true, eqb-false, ltb-false, leb-false, not-false}
 use Rattle.model.specs.declared.Domain.{Domain}
-use Rattle.model.specs.declared.DomainIndex.{DomainIndex}
-use Rattle.model.specs.declared.NodeAddress.{NodeAddress}
+use Rattle.model.specs.declared.NamedStop.{NamedStop}
 use Rattle.model.specs.Lists.{any, all_different, each, sum}
 use Rattle.model.specs.Sequence.{Stop, stop, domain_of, domains_of}
 use Rattle.model.specs.WrittenList.{pin_if, stops, written_stop, written_from, written, first_marked, whole_exrs, unfit, unwritable}
@@ -197,11 +196,11 @@ domain-inside ds indexes marks nodes counts exrs a i h = leb-false _ _ (any_fals
 
 -- ---- the sequence that code holds, by index
 
-module _ (list : List ℕ) (ds : List DomainIndex) (ms : List ℕ) (ns : List NodeAddress) (named : List ℕ) (n : ℕ) where
-  pub stops-length : length (stops_of list n ds ms ns named) ≡ n
+module _ (list : List ℕ) (ss : List NamedStop) (n : ℕ) where
+  pub stops-length : length (stops_of list n ss) ≡ n
   unfolding stops_of
-  stops-length = length-map-count_from (stop_in list ds ms ns named) 0 n
+  stops-length = length-map-count_from (stop_in list ss) 0 n
 
-  pub stop_at_lem : (i : ℕ) → i < n → get_or (stops_of list n ds ms ns named) i no_stop ≡ stop_in list ds ms ns named i
+  pub stop_at_lem : (i : ℕ) → i < n → get_or (stops_of list n ss) i no_stop ≡ stop_in list ss i
   unfolding stops_of
-  stop_at_lem i h = get_or-map-count_from (stop_in list ds ms ns named) 0 n i no_stop h ∙ ap (stop_in list ds ms ns named) (zero-add i)
+  stop_at_lem i h = get_or-map-count_from (stop_in list ss) 0 n i no_stop h ∙ ap (stop_in list ss) (zero-add i)

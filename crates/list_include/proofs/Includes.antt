@@ -4,7 +4,7 @@ use mathlib.Core.Bool.{Bool, true, false, cond}
 use mathlib.Core.List.{List, [], ◌∷◌, map}
 use Prim.Native.Nat.{ℕ, zero, suc, ◌+◌, ◌≤◌, ◌<◌}
 use native.Mathlib.Omega.{arith}
-use lib.ListN.{length, get_or, set, replicate}
+use lib.ListN.{length, get_or, replicate}
 use lib.Dec.{eqb}
 use mathlib.Core.Logic.{⊎_elim}
 use borrow.Author.Tests.{ne_eqb, eqb-true, eqb-false}
@@ -24,9 +24,9 @@ use Rattle.laws.proofs.Records.{domain_at_lem}
 use Rattle.list_include.specs.declared.state.State.{State}
 use Rattle.std.specs.Prelude.{None}
 use Rattle.laws.specs.Exrs.{exrs_in, waiting_in, Stretch}
-use Rattle.laws.specs.Stops.{node_in, stretch_start}
+use Rattle.laws.specs.Stops.{named_in, stretch_start}
 use Rattle.laws.proofs.Waiting.{empty_stretch}
-use Rattle.list_include.specs.Reading.{subobject_of, Clean, SoundState, StateIs}
+use Rattle.list_include.specs.Reading.{subobject_of, StateIs}
 use Rattle.laws.specs.Left.{form_left, subobjects_left}
 use Rattle.laws.proofs.Along.{places_first}
 use Rattle.laws.proofs.Walk.{subobjects-end, subobjects_next, subobjects-whole}
@@ -84,32 +84,7 @@ area-end s at h = sym (ap M.area_next (subobjects-end s (length s) at h))
 
 abbrev first : ℕ → DomainIndex → State
 first asn d =
-    record {
-      asn = asn;
-      count = 1;
-      domains = set (replicate 16 (record { 0 = 0 })) 0 d;
-      pinned = replicate 16 0;
-      pins = replicate 16 (record { 0 = 0 });
-      named = replicate 16 0;
-      pin = None;
-      waiting = None;
-    }
-
-first_sound : (asn : ℕ) (d : DomainIndex) → SoundState (first asn d)
-first_sound asn d =
-    record {
-      some_domain_lem = omega arith;
-      most = omega arith;
-      domains-long = refl;
-      pinned_long = refl;
-      pins-long = refl;
-      named-long = refl;
-      clean = λ i h. only i h;
-    }
-  where
-    only : (i : ℕ) → i < 1 → Clean (get_or (first asn d).pinned i 0) (node_in (first asn d).pins i)
-    only zero h = (refl, refl)
-    only (suc i) h = absurd (omega arith)
+    record { asn = asn; count = 1; stops = replicate 16 (record { domain = d; pin = None; named = 0 }); pin = None; waiting = None }
 
 pub started
     : (s : List ℕ) (d : DomainIndex) (x : ℕ) → d.0 < domain_count s → x ≡ number 4 s (domain_start d.0)
@@ -119,7 +94,7 @@ started s d x h e list =
     let asn : x ≡ (M.domain_of (domains s) d.0).asn = e ∙ sym (ap (λ (r : Domain). r.asn) (domain_at_lem s d.0 M.no_domain h)) in
     record {
       means = λ k. record { asn = asn k; here = d.0; sequence = M.stop_with d.0 [] ∷ []; waiting = [] };
-      sound = first_sound x d;
+      sound = record { some_domain_lem = omega arith; most = omega arith; stops-long = refl };
       standing =
           record {
             placed = λ i l. alone i l;
@@ -129,7 +104,7 @@ started s d x h e list =
           };
     }
   where
-    alone : (i : ℕ) → i < 1 → Stretch list (stretch_start (first x d).named i) (get_or (first x d).named i 0)
+    alone : (i : ℕ) → i < 1 → Stretch list (stretch_start (first x d).stops i) (named_in (first x d).stops i)
     alone zero l = empty_stretch list 0 (omega arith)
     alone (suc i) l = absurd (omega arith)
 

@@ -2,107 +2,75 @@
 use mathlib.Core.Path.{◌≡◌, refl, sym, ap, ap₂, subst, ◌∙◌}
 use mathlib.Core.Logic.{⊎_elim}
 use mathlib.Core.Bool.{Bool, true, false, ◌||◌}
-use mir.Val.{bool_byte}
 use mathlib.Core.List.{List, [], ◌∷◌, ◌++◌, append-nil, map}
 use mathlib.Core.Option as Math
-use Rattle.std.specs.Prelude.{Option, None, Some, is_some, unwrap_or, Ok, Err}
+use Rattle.std.specs.Prelude.{Option, None, Some, is_some, Ok, Err}
 use Prim.Native.Nat.{ℕ, zero, suc, ◌+◌, ◌-◌, ◌≤◌, ◌<◌}
 use native.Mathlib.Nat.{zero-add, eq-or-lt_of_le}
 use native.Mathlib.Numerals.{add-one}
 use native.Mathlib.Omega.{arith}
-use lib.ListN.{length, get_or, take, set, length-set, length-map, get_or-map}
+use lib.ListN.{length, take, set, length-set, length-map, get_or-map}
 use lib.Seq.{get_or-set_same, get_or-set_other, length-take-le}
 use Rattle.std.proofs.lemmas.List.{get_or-take}
 use Rattle.std.proofs.lemmas.Grind.{same_number_lists}
-use Rattle.std.proofs.lemmas.Bool.Decides.{nat_tests}
 use Rattle.std.specs.List.{list_any}
 use lib.Dec.{eqb}
 use Rattle.model.specs.declared.DomainIndex.{DomainIndex}
+use Rattle.model.specs.declared.NamedStop.{NamedStop}
 use Rattle.model.specs.declared.NodeAddress.{NodeAddress}
 use Rattle.model.specs.Lists.{count_from, among}
 use Rattle.model.specs.Sequence as M
-use Rattle.model.specs.WrittenList.{pin_if}
-use Rattle.model.specs.Calls.{pin_mark, pin_node}
 use Rattle.laws.proofs.Lists.{map_agree, map-append, count_from_mem}
 use Rattle.model.specs.Path.{no_stop}
 use Rattle.laws.proofs.Stops.{stops-length, stop_at_lem}
 use borrow.Author.Tests.{eq-eqb, ne_eqb, le-leb, lt-leb}
 use Rattle.model.specs.declared.Refusal.{Refusal}
 use Rattle.laws.specs.Exrs.{exrs_in, waiting_in, Stretch}
-use Rattle.laws.specs.Stops.{stops_of, stretch_start, domain_in, node_in}
+use Rattle.laws.specs.Stops.{stops_of, pin_as, stretch_start, stop_at, domain_in, named_in}
 use Rattle.laws.proofs.Waiting.{nothing-waits, exrs-waiting, empty_stretch}
 use Rattle.list_include.specs.declared.state.State.{State}
 use Rattle.list_include.specs.NamedDomain.{found_of}
-use Rattle.list_include.specs.Reading.{left_by, left_or, pin_as, state_stop, state_stops, since, state_waits, state_of, Clean, SoundState, Placed, Standing, StateIs, Past, with_waiting, ReadAs, ReadStepIs, name_found}
+use Rattle.list_include.specs.Reading.{left_by, left_or, state_stop, state_stops, since, state_waits, state_of, SoundState, Placed, Standing, StateIs, Past, with_waiting, ReadAs, ReadStepIs, name_found}
 use Rattle.list_include.proofs.Hits.{count_snoc}
 
 pub length-stops : (list : List ℕ) (st : State) → length (state_stops list st) ≡ st.count
-length-stops list st = stops-length list st.domains st.pinned st.pins st.named st.count
-
--- an entry constraint is what its mark and its node say
-pin-back : (p : Math.Option ℕ) → pin_if (pin_mark p) (pin_node p) ≡ p
-pin-back Math.none = refl
-pin-back (Math.some n) = refl
-
-clean-pin : (p : Math.Option ℕ) → Clean (pin_mark p) (pin_node p)
-clean-pin Math.none = (refl, refl)
-clean-pin (Math.some n) = (refl, refl)
-
--- its mark and its node are those that are written of one that waits, or 0 and 0
-pub marked : (pin : Option NodeAddress) (some : Bool) → some ≡ is_some pin → bool_byte some ≡ pin_mark (pin_as pin)
-marked None some e = ap bool_byte e
-marked (Some node) some e = ap bool_byte e
-
-pub noded : (pin : Option NodeAddress) (node : NodeAddress) → node ≡ unwrap_or pin (record { 0 = 0 }) → node.0 ≡ pin_node (pin_as pin)
-noded None node e = ap (λ (n : NodeAddress). n.0) e
-noded (Some other) node e = ap (λ (n : NodeAddress). n.0) e
+length-stops list st = stops-length list st.stops st.count
 
 -- ---- adding a domain, named at an offset
 
-module _ (st : State) (at : ℕ) (d : DomainIndex) (sound : SoundState st) (room : st.count < 16)
-    (m : ℕ) (node : NodeAddress) (mark-is : m ≡ pin_mark (pin_as st.pin)) (node-is : node.0 ≡ pin_node (pin_as st.pin)) where
+module _ (st : State) (at : ℕ) (d : DomainIndex) (sound : SoundState st) (room : st.count < 16) where
+  abbrev new : NamedStop
+  new = record { domain = d; pin = st.pin; named = at }
+
   abbrev pub longer : State
-  longer =
-      record {
-        asn = st.asn;
-        count = st.count + 1;
-        domains = set st.domains st.count d;
-        pinned = set st.pinned st.count m;
-        pins = set st.pins st.count node;
-        named = set st.named st.count at;
-        pin = None;
-        waiting = None;
-      }
+  longer = record { asn = st.asn; count = st.count + 1; stops = set st.stops st.count new; pin = None; waiting = None }
 
-  at_domains : domain_in longer.domains st.count ≡ d.0
-  at_domains = ap (λ (x : DomainIndex). x.0) (get_or-set_same st.domains st.count d (record { 0 = 0 }) (omega (arith, sound.domains-long)))
+  there : stop_at longer.stops st.count ≡ new
+  there = get_or-set_same st.stops st.count new _ (omega (arith, sound.stops-long))
 
-  at_pinned : get_or longer.pinned st.count 0 ≡ m
-  at_pinned = get_or-set_same st.pinned st.count m 0 (omega (arith, sound.pinned_long))
+  old : (i : ℕ) → i < st.count → stop_at longer.stops i ≡ stop_at st.stops i
+  old i h = get_or-set_other st.stops st.count i new _ (λ q. omega arith)
 
-  at_pins : node_in longer.pins st.count ≡ node.0
-  at_pins = ap (λ (x : NodeAddress). x.0) (get_or-set_same st.pins st.count node (record { 0 = 0 }) (omega (arith, sound.pins-long)))
+  old_named : (i : ℕ) → i < st.count → named_in longer.stops i ≡ named_in st.stops i
+  old_named i h = ap (λ (x : NamedStop). x.named) (old i h)
 
-  at_named : get_or longer.named st.count 0 ≡ at
-  at_named = get_or-set_same st.named st.count at 0 (omega (arith, sound.named-long))
-
-  old_named : (i : ℕ) → i < st.count → get_or longer.named i 0 ≡ get_or st.named i 0
-  old_named i h = get_or-set_other st.named st.count i at 0 (λ q. omega arith)
+  at_named : named_in longer.stops st.count ≡ at
+  at_named = ap (λ (x : NamedStop). x.named) there
 
   -- where the EXRS of a domain start to stand
-  old_start : (i : ℕ) → i ≤ st.count → stretch_start longer.named i ≡ stretch_start st.named i
+  old_start : (i : ℕ) → i ≤ st.count → stretch_start longer.stops i ≡ stretch_start st.stops i
   old_start zero h = refl
   old_start (suc i) h = old_named i (omega arith)
 
-  new_start : stretch_start longer.named st.count ≡ since st
+  new_start : stretch_start longer.stops st.count ≡ since st
   new_start = old_start st.count (omega arith) ∙ last-start st.count sound.some_domain_lem
     where
-      last-start : (n : ℕ) → 1 ≤ n → stretch_start st.named n ≡ get_or st.named (n - 1) 0
+      last-start : (n : ℕ) → 1 ≤ n → stretch_start st.stops n ≡ named_in st.stops (n - 1)
       last-start zero h = absurd (omega arith)
-      last-start (suc n) h = let e : n ≡ suc n - 1 = omega arith in ap (λ (k : ℕ). get_or st.named k 0) e
+      last-start (suc n) h = let e : n ≡ suc n - 1 = omega arith in ap (named_in st.stops) e
 
   since_new : since longer ≡ at
-  since_new = let e : st.count + 1 - 1 ≡ st.count = omega arith in ap (λ (k : ℕ). get_or longer.named k 0) e ∙ at_named
+  since_new = let e : st.count + 1 - 1 ≡ st.count = omega arith in ap (named_in longer.stops) e ∙ at_named
 
   module _ (list : List ℕ) (standing : Standing list at st) where
     abbrev waits : List M.Waiting
@@ -110,24 +78,17 @@ module _ (st : State) (at : ℕ) (d : DomainIndex) (sound : SoundState st) (room
 
     older : (i : ℕ) → i < st.count → state_stop list longer i ≡ state_stop list st i
     older i h =
-        let e : (i ≡ st.count) → ⊥ = λ q. omega arith in
         λ k. record {
-          domain = (get_or-set_other st.domains st.count i d (record { 0 = 0 }) e k).0;
-          pin = pin_if (get_or-set_other st.pinned st.count i m 0 e k) (get_or-set_other st.pins st.count i node (record { 0 = 0 }) e k).0;
-          exrs = exrs_in list (old_start i (omega arith) k) (old_named i h k);
+          domain = (old i h k).domain.0;
+          pin = pin_as (old i h k).pin;
+          exrs = exrs_in list (old_start i (omega arith) k) (old i h k).named;
         }
-
-    new_mark : get_or longer.pinned st.count 0 ≡ pin_mark (M.pin_of waits)
-    new_mark = at_pinned ∙ mark-is ∙ ap pin_mark standing.pin_is
-
-    new_node : node_in longer.pins st.count ≡ pin_node (M.pin_of waits)
-    new_node = at_pins ∙ node-is ∙ ap pin_node standing.pin_is
 
     newest : state_stop list longer st.count ≡ M.stop_with d.0 waits
     newest =
-        let p = ap₂ pin_if new_mark new_node ∙ pin-back (M.pin_of waits) in
+        let p = ap (λ (x : NamedStop). pin_as x.pin) there ∙ standing.pin_is in
         let x = ap₂ (exrs_in list) new_start at_named ∙ sym (exrs-waiting list (since st) at) in
-        λ k. M.stop (at_domains k) (p k) (x k)
+        λ k. M.stop (there k).domain.0 (p k) (x k)
 
     sequence : state_stops list longer ≡ state_stops list st ++ (M.stop_with d.0 waits ∷ [])
     unfolding stops_of
@@ -139,29 +100,17 @@ module _ (st : State) (at : ℕ) (d : DomainIndex) (sound : SoundState st) (room
         (map_agree (state_stop list longer) (state_stop list st) (count_from 0 st.count) (λ i h. older i (omega (arith, (count_from_mem 0 st.count h).1))))
         (ap {B = List M.Stop} (λ (x : M.Stop). x ∷ []) (ap (state_stop list longer) (zero-add st.count) ∙ newest))
 
-    here : domain_in longer.domains (longer.count - 1) ≡ d.0
-    here = ap (domain_in longer.domains) (omega arith) ∙ at_domains
+    here : domain_in longer.stops (longer.count - 1) ≡ d.0
+    here = ap (domain_in longer.stops) (omega arith) ∙ ap (λ (x : NamedStop). x.domain.0) there
 
     -- by the last domain, or one before it
-    last_or : (P : ℕ → Type 0) → P st.count → ((i : ℕ) → i < st.count → P i) → (i : ℕ) → i < longer.count → P i
-    last_or P last others i h =
-        ⊎_elim (λ (q : i ≡ st.count). subst P (sym q) last) (λ (l : i < st.count). others i l) (eq-or-lt_of_le (omega arith))
-
-    cleaner : (i : ℕ) → i < longer.count → Clean (get_or longer.pinned i 0) (node_in longer.pins i)
-    cleaner =
-        last_or (λ (i : ℕ). Clean (get_or longer.pinned i 0) (node_in longer.pins i))
-        (subst (λ (x : ℕ). Clean x (node_in longer.pins st.count)) (sym new_mark)
-        (subst (λ (x : ℕ). Clean (pin_mark (M.pin_of waits)) x) (sym new_node) (clean-pin (M.pin_of waits))))
-        (λ i l.
-        let e : (i ≡ st.count) → ⊥ = λ q. omega arith in
-        subst (λ (x : ℕ). Clean x (node_in longer.pins i)) (sym (get_or-set_other st.pinned st.count i m 0 e))
-        (subst (λ (x : ℕ). Clean (get_or st.pinned i 0) x) (sym (ap (λ (x : NodeAddress). x.0) (get_or-set_other st.pins st.count i node (record { 0 = 0 }) e))) (sound.clean i l)))
-
     placed_new : Placed list longer
-    placed_new =
-        last_or (λ (i : ℕ). Stretch list (stretch_start longer.named i) (get_or longer.named i 0))
-        (rw (new_start, at_named) standing.behind)
-        (λ i l. rw (old_start i (omega arith), old_named i l) (standing.placed i l))
+    placed_new i h =
+        let P : ℕ → Type 0 = λ n. Stretch list (stretch_start longer.stops n) (named_in longer.stops n) in
+        ⊎_elim
+        (λ (q : i ≡ st.count). subst P (sym q) (rw (new_start, at_named) standing.behind))
+        (λ (l : i < st.count). rw (old_start i (omega arith), old_named i l) (standing.placed i l))
+        (eq-or-lt_of_le (omega arith))
 
     none_waits : state_waits list at longer ≡ []
     none_waits = ap (λ (o : ℕ). waiting_in list o at) since_new ∙ nothing-waits list at
@@ -170,16 +119,7 @@ module _ (st : State) (at : ℕ) (d : DomainIndex) (sound : SoundState st) (room
     added_state =
         record {
           means = λ k. record { asn = st.asn; here = here k; sequence = sequence k; waiting = none_waits k };
-          sound =
-              record {
-                some_domain_lem = omega arith;
-                most = omega arith;
-                domains-long = length-set st.domains st.count d ∙ sound.domains-long;
-                pinned_long = length-set st.pinned st.count m ∙ sound.pinned_long;
-                pins-long = length-set st.pins st.count node ∙ sound.pins-long;
-                named-long = length-set st.named st.count at ∙ sound.named-long;
-                clean = cleaner;
-              };
+          sound = record { some_domain_lem = omega arith; most = omega arith; stops-long = length-set st.stops st.count new ∙ sound.stops-long };
           standing =
               record {
                 placed = placed_new;
@@ -191,32 +131,29 @@ module _ (st : State) (at : ℕ) (d : DomainIndex) (sound : SoundState st) (room
 
 -- ---- a search of the domains so far
 
-eqb_turned : (a b : ℕ) → eqb a b ≡ eqb b a
-eqb_turned a b = grind (arith, nat_tests)
-
-sought : (d : ℕ) (ds : List DomainIndex) → list_any (λ (x : DomainIndex). eqb x.0 d) ds ≡ list_any (eqb d) (map (λ (x : DomainIndex). x.0) ds)
+sought : (d : ℕ) (ss : List NamedStop) → list_any (λ (x : NamedStop). eqb d x.domain.0) ss ≡ list_any (eqb d) (map (λ (x : NamedStop). x.domain.0) ss)
 sought d [] = refl
-sought d (x ∷ ds) = ap₂ (λ (a b : Bool). a || b) (eqb_turned x.0 d) (sought d ds)
+sought d (x ∷ ss) = ap (λ (b : Bool). eqb d x.domain.0 || b) (sought d ss)
 
 module _ (list : List ℕ) (st : State) (sound : SoundState st) where
   numbers : List ℕ
-  numbers = map (λ (x : DomainIndex). x.0) (take st.count st.domains)
+  numbers = map (λ (x : NamedStop). x.domain.0) (take st.count st.stops)
 
   sequence-domains : numbers ≡ M.domains_of (state_stops list st)
   unfolding numbers
   sequence-domains =
-      let long : length numbers ≡ st.count = length-map (take st.count st.domains) (λ (x : DomainIndex). x.0) ∙ length-take-le st.count st.domains (omega (arith, sound.domains-long, sound.most)) in
+      let long : length numbers ≡ st.count = length-map (take st.count st.stops) (λ (x : NamedStop). x.domain.0) ∙ length-take-le st.count st.stops (omega (arith, sound.stops-long, sound.most)) in
       same_number_lists numbers (M.domains_of (state_stops list st))
       (long ∙ sym (length-map (state_stops list st) (λ (p : M.Stop). p.domain) ∙ length-stops list st))
       (λ k h.
       let below : k < st.count = omega (arith, long) in
-      get_or-map (λ (x : DomainIndex). x.0) (take st.count st.domains) k (record { 0 = 0 })
-      ∙ ap (λ (x : DomainIndex). x.0) (get_or-take st.count st.domains k (record { 0 = 0 }) below)
-      ∙ sym (get_or-map (λ (p : M.Stop). p.domain) (state_stops list st) k no_stop ∙ ap (λ (p : M.Stop). p.domain) (stop_at_lem list st.domains st.pinned st.pins st.named st.count k below)))
+      get_or-map (λ (x : NamedStop). x.domain.0) (take st.count st.stops) k (record { domain = record { 0 = 0 }; pin = None; named = 0 })
+      ∙ ap (λ (x : NamedStop). x.domain.0) (get_or-take st.count st.stops k (record { domain = record { 0 = 0 }; pin = None; named = 0 }) below)
+      ∙ sym (get_or-map (λ (p : M.Stop). p.domain) (state_stops list st) k no_stop ∙ ap (λ (p : M.Stop). p.domain) (stop_at_lem list st.stops st.count k below)))
 
-  pub held : (d : ℕ) → list_any (λ (x : DomainIndex). eqb x.0 d) (take st.count st.domains) ≡ among d (M.domains_of (state_stops list st))
+  pub held : (d : ℕ) → list_any (λ (x : NamedStop). eqb d x.domain.0) (take st.count st.stops) ≡ among d (M.domains_of (state_stops list st))
   unfolding among numbers
-  held d = sought d (take st.count st.domains) ∙ ap (list_any (eqb d)) sequence-domains
+  held d = sought d (take st.count st.stops) ∙ ap (list_any (eqb d)) sequence-domains
 
 -- ---- naming a domain by what was found
 
@@ -266,36 +203,23 @@ module _ (at : ℕ) (st : M.State) (d : ℕ) where
       enter_new h = rw (ne_eqb d st.here away, new, lt-leb 16 (length st.sequence) h) refl
 
 -- the same sequence is as sound with other things beside it
-pub still-sound
-    : (st st' : State) → st.count ≡ st'.count → st.domains ≡ st'.domains → st.pinned ≡ st'.pinned → st.pins ≡ st'.pins → st.named ≡ st'.named
-    → SoundState st → SoundState st'
-still-sound st st' c d m n o sound =
+pub still-sound : (st st' : State) → st.count ≡ st'.count → st.stops ≡ st'.stops → SoundState st → SoundState st'
+still-sound st st' c d sound =
     record {
       some_domain_lem = subst (λ (k : ℕ). 1 ≤ k) c sound.some_domain_lem;
       most = subst (λ (k : ℕ). k ≤ 16) c sound.most;
-      domains-long = ap length (sym d) ∙ sound.domains-long;
-      pinned_long = ap length (sym m) ∙ sound.pinned_long;
-      pins-long = ap length (sym n) ∙ sound.pins-long;
-      named-long = ap length (sym o) ∙ sound.named-long;
-      clean = λ i h. subst (λ (xs : List ℕ). Clean (get_or xs i 0) (node_in st'.pins i)) m (subst (λ (ys : List NodeAddress). Clean (get_or st.pinned i 0) (node_in ys i)) n (sound.clean i (subst (λ (k : ℕ). i < k) (sym c) h)));
+      stops-long = ap length (sym d) ∙ sound.stops-long;
     }
 
 -- another AS: all else stays
 pub with_system_lem : (list : List ℕ) (at : ℕ) (st : State) (asn : ℕ) → SoundState st → Standing list at st
-    → StateIs list at (record { asn = asn; count = st.count; domains = st.domains; pinned = st.pinned; pins = st.pins; named = st.named; pin = st.pin; waiting = st.waiting })
-    (M.with_system (state_of list at st) asn)
+    → StateIs list at (record { asn = asn; count = st.count; stops = st.stops; pin = st.pin; waiting = st.waiting }) (M.with_system (state_of list at st) asn)
 unfolding stops_of
 with_system_lem list at st asn sound standing =
     record {
       means = refl;
-      sound = still-sound st _ refl refl refl refl refl sound;
-      standing =
-          record {
-            placed = standing.placed;
-            behind = standing.behind;
-            pin_is = standing.pin_is;
-            left_is = standing.left_is;
-          };
+      sound = still-sound st _ refl refl sound;
+      standing = record { placed = standing.placed; behind = standing.behind; pin_is = standing.pin_is; left_is = standing.left_is };
     }
 
 -- ---- something more waits, and the reading goes on past it
@@ -312,8 +236,8 @@ module _ (list : List ℕ) (at next : ℕ) (st : State) (what : M.Waits) (sound 
   unfolding stops_of
   waits_more =
       record {
-        means = λ k. record { asn = st.asn; here = domain_in st.domains (st.count - 1); sequence = state_stops list st; waiting = past.waits k };
-        sound = still-sound st _ refl refl refl refl refl sound;
+        means = λ k. record { asn = st.asn; here = domain_in st.stops (st.count - 1); sequence = state_stops list st; waiting = past.waits k };
+        sound = still-sound st _ refl refl sound;
         standing =
             record {
               placed = standing.placed;
@@ -354,7 +278,7 @@ pub goes_past : (list : List ℕ) (at next : ℕ) (st : State) (m : M.State) →
 goes_past list at next st m is past =
     let same : state_waits list next st ≡ state_waits list at st = past.waits ∙ append-nil (state_waits list at st) in
     record {
-      means = (λ k. record { asn = st.asn; here = domain_in st.domains (st.count - 1); sequence = state_stops list st; waiting = same k }) ∙ is.means;
+      means = (λ k. record { asn = st.asn; here = domain_in st.stops (st.count - 1); sequence = state_stops list st; waiting = same k }) ∙ is.means;
       sound = is.sound;
       standing =
           record {

@@ -1,16 +1,13 @@
 -- What the code's state of a reading stands for, over the definitions of `model`.
-use Rattle.std.specs.Prelude.{◌≡◌, List, [], ◌∷◌, ◌++◌, ℕ, ◌-◌, ◌≤◌, ◌<◌, length, get_or, Option, Some, None, Result, Ok, Err}
-use Rattle.std.proofs.Math.Option as Math
+use Rattle.std.specs.Prelude.{◌≡◌, List, [], ◌∷◌, ◌++◌, ℕ, ◌-◌, ◌≤◌, ◌<◌, length, Option, Some, None, Result, Ok, Err}
 use Rattle.model.specs.Verdict.{Pass}
 use Rattle.model.specs.declared.NodeAddress.{NodeAddress}
 use Rattle.model.specs.declared.Refusal.{Refusal}
 use Rattle.model.specs.declared.ListKind.TheVariants.{Include}
 use Rattle.model.specs.Subobject.{Subobject, subobject_verdict}
 use Rattle.model.specs.Sequence as M
-use Rattle.model.specs.WrittenList.{pin_if}
 use Rattle.laws.specs.Exrs.{waiting_in, Stretch}
-use Rattle.laws.specs.Stops.{domain_in, node_in, stretch_start, stop_in, stops_of}
-use Rattle.model.specs.Calls.{pin_mark, pin_node}
+use Rattle.laws.specs.Stops.{pin_as, domain_in, named_in, stretch_start, stop_in, stops_of}
 use Rattle.list_subobject.specs.declared.item.Item.{Item}
 use Rattle.list_subobject.specs.Items.{named_of, ItemAt}
 use Rattle.list_include.specs.declared.named_domains.NamedDomain.{NamedDomain}
@@ -35,21 +32,16 @@ abbrev pub left_or : Option Refusal → ℕ → ℕ → Option Refusal
 left_or None number at = Some (record { number = number; place = at })
 left_or (Some first) number at = Some first
 
--- the entry constraint that a node makes
-abbrev pub pin_as : Option NodeAddress → Math.Option ℕ
-pin_as None = Math.none
-pin_as (Some node) = Math.some node.0
-
 -- what a state holds stands in a list: a domain i of the sequence with its entry constraint and its EXRS, and the whole sequence
 abbrev pub state_stop : List ℕ → State → ℕ → M.Stop
-state_stop list st = stop_in list st.domains st.pinned st.pins st.named
+state_stop list st = stop_in list st.stops
 
 abbrev pub state_stops : List ℕ → State → List M.Stop
-state_stops list st = stops_of list st.count st.domains st.pinned st.pins st.named
+state_stops list st = stops_of list st.count st.stops
 
 -- where the subobject stands that named the domain one is in; what stands behind it may wait
 abbrev pub since : State → ℕ
-since st = get_or st.named (st.count - 1) 0
+since st = named_in st.stops (st.count - 1)
 
 -- what waits where the reading has come to an offset
 abbrev pub state_waits : List ℕ → ℕ → State → List M.Waiting
@@ -60,28 +52,20 @@ abbrev pub state_of : List ℕ → ℕ → State → M.State
 state_of list at st =
     record {
       asn = st.asn;
-      here = domain_in st.domains (st.count - 1);
+      here = domain_in st.stops (st.count - 1);
       sequence = state_stops list st;
       waiting = state_waits list at st;
     }
 
--- a mark and a node are those of one entry constraint, or 0 and 0
-abbrev pub Clean : ℕ → ℕ → Type 0
-Clean m n = (pin_mark (pin_if m n) ≡ m) × (pin_node (pin_if m n) ≡ n)
-
--- 1 to 16 domains, in arrays of 16
+-- 1 to 16 domains, in an array of 16
 pub record SoundState (st : State) : Type 0 where
   pub some_domain_lem : 1 ≤ st.count
   pub most : st.count ≤ 16
-  pub domains-long : length st.domains ≡ 16
-  pub pinned_long : length st.pinned ≡ 16
-  pub pins-long : length st.pins ≡ 16
-  pub named-long : length st.named ≡ 16
-  pub clean : (i : ℕ) → i < st.count → Clean (get_or st.pinned i 0) (node_in st.pins i)
+  pub stops-long : length st.stops ≡ 16
 
 -- the part of the list before each of its domains is a stretch of whole subobjects
 abbrev pub Placed : List ℕ → State → Type 0
-Placed list st = (i : ℕ) → i < st.count → Stretch list (stretch_start st.named i) (get_or st.named i 0)
+Placed list st = (i : ℕ) → i < st.count → Stretch list (stretch_start st.stops i) (named_in st.stops i)
 
 -- so is the part behind the last of them, up to where the reading has come to; and what the state says of what waits is what waits there
 pub record Standing (list : List ℕ) (at : ℕ) (st : State) : Type 0 where
@@ -107,10 +91,7 @@ with_waiting st pin waiting =
     record {
       asn = st.asn;
       count = st.count;
-      domains = st.domains;
-      pinned = st.pinned;
-      pins = st.pins;
-      named = st.named;
+      stops = st.stops;
       pin = pin;
       waiting = waiting;
     }

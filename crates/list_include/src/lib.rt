@@ -17,7 +17,7 @@ use crate::named_domains::{of_area, of_system};
 use crate::state::{State, name_found, wait_exrs, wait_for, with_asn};
 use list_subobject::item::{Item, Named};
 use list_subobject::walk::subobject_at;
-use model::{DomainIndex, NodeAddress, Refusal};
+use model::{DomainIndex, NamedStop, Refusal};
 use wire::u32_at;
 
 pub mod named_domains;
@@ -86,16 +86,15 @@ fn start(profile: &[u8], ingress: DomainIndex) -> State
     requires { WholeDomains profile.now × (ingress.0 < domain_count profile.now) }
     ensures { (list : List ℕ) → StateIs list 0 result (start_in (reading_input profile.now) ingress.0) }
 {
-    let i = ingress.0 as usize;
-    let mut domains = [DomainIndex(0); 16];
-    domains[0] = ingress;
+    let first = NamedStop {
+        domain: ingress,
+        pin: None,
+        named: 0,
+    };
     State {
-        asn: u32_at(profile, 12 + 20 * i),
+        asn: u32_at(profile, 12 + 20 * ingress.0 as usize),
         count: 1,
-        domains,
-        pinned: [0u8; 16],
-        pins: [NodeAddress(0); 16],
-        named: [0u16; 16],
+        stops: [first; 16],
         pin: None,
         waiting: None,
     }

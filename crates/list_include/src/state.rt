@@ -1,24 +1,21 @@
 // How far the reading of an include list is: the sequence so far and what waits. One step for each thing that a subobject can say.
-ghost use Rattle.std.specs.Prelude.{◌≡◌, List, [], ◌∷◌, ℕ, ◌≤◌, ◌<◌};
+ghost use Rattle.std.specs.Prelude.{◌≡◌, List, [], ◌∷◌, ℕ, ◌≤◌, ◌<◌, eqb};
+ghost use Rattle.std.specs.List.{list_any};
 ghost use Rattle.model.specs.Lists.{among};
 ghost use Rattle.model.specs.Verdict.{number_of};
 ghost use Rattle.model.specs.Sequence.{domains_of, added, enter, wait, waits_too, waiting_for, entry, exclusions, good, with_system, pin_of};
 ghost use Rattle.list_include.specs.Reading.{left_or, with_waiting, state_stops, state_waits, state_of, SoundState, Standing, StateIs, Past, ReadStepIs, name_found};
 
 use crate::named_domains::NamedDomain;
-use model::{DomainIndex, NodeAddress, Reason, Refusal};
+use model::{DomainIndex, NamedStop, NodeAddress, Reason, Refusal};
 
-// The current AS; the domains so far (`count` of them) with their entry constraints, and where in the list the subobjects stand that named them: the EXRS of a domain
-// are those between the subobject that named the one before and its own; the node of an entry constraint that waits for the next new domain; and what is told if
-// something is left waiting: the first of it.
+// The current AS; the sequence so far, `count` domains (the EXRS of a domain are those between the subobject that named the one before and its own); the node of an
+// entry constraint that waits for the next new domain; and what is told if something is left waiting: the first of it.
 #[derive(Clone, Copy)]
 pub struct State {
     pub asn: u32,
     pub count: usize,
-    pub domains: [DomainIndex; 16],
-    pub pinned: [u8; 16],
-    pub pins: [NodeAddress; 16],
-    pub named: [u16; 16],
+    pub stops: [NamedStop; 16],
     pub pin: Option<NodeAddress>,
     pub waiting: Option<Refusal>,
 }
@@ -37,15 +34,22 @@ fn add(st: State, at: usize, d: DomainIndex) -> State
     ensures { (list : List ℕ) → Standing list at st → StateIs list at result (added (state_of list at st) d.0) }
 {
     let mut next = st;
-    let i = st.count;
-    next.domains[i] = d;
-    next.pinned[i] = st.pin.is_some() as u8;
-    next.pins[i] = st.pin.unwrap_or(NodeAddress(0));
-    next.named[i] = at as u16;
-    next.count = i + 1;
+    next.stops[st.count] = NamedStop {
+        domain: d,
+        pin: st.pin,
+        named: at as u16,
+    };
+    next.count = st.count + 1;
     next.pin = None;
     next.waiting = None;
     next
+}
+
+// One of the stops is in this domain.
+fn any_in(stops: &[NamedStop], d: DomainIndex) -> bool
+    ensures { result ≡ list_any (λ stop. eqb d.0 stop.domain.0) stops.now }
+{
+    stops.iter().any(|stop| d == stop.domain)
 }
 
 // The sequence holds this domain.
@@ -53,7 +57,7 @@ fn holds(st: State, d: DomainIndex) -> bool
     requires { SoundState st }
     ensures { (list : List ℕ) → result ≡ among d.0 (domains_of (state_stops list st)) }
 {
-    st.domains[..st.count].contains(&d)
+    any_in(&st.stops[..st.count], d)
 }
 
 // Naming a domain: the domain one is in adds nothing, one that comes back is 30, else a seventeenth is 31.
@@ -62,7 +66,7 @@ fn enter_domain(st: State, at: usize, d: DomainIndex) -> Result<State, Refusal>
     ensures { (list : List ℕ) → Standing list at st → ReadStepIs list at result (enter at (state_of list at st) d.0) }
 {
     let count = st.count;
-    if d == st.domains[count - 1] {
+    if d == st.stops[count - 1].domain {
         return Ok(st);
     }
     if holds(st, d) {

@@ -97,6 +97,15 @@ impl Refusal {
     }
 }
 
+// A domain of a sequence as an include list names it: its index, the node of its entry constraint if it has one, and where in the list the subobject stands that
+// named it.
+#[derive(Clone, Copy)]
+pub struct NamedStop {
+    pub domain: DomainIndex,
+    pub pin: Option<NodeAddress>,
+    pub named: u16,
+}
+
 // What a check says: the input passes it, or is refused.
 pub type Verdict = Result<(), Refusal>;
 

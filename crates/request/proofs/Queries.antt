@@ -45,10 +45,7 @@ abbrev pub query_of : State → NodeAddress → NodeAddress → Limits → Query
 query_of st source destination limits =
     record {
       count = st.count;
-      domains = st.domains;
-      pinned = st.pinned;
-      pins = st.pins;
-      named = st.named;
+      stops = st.stops;
       source = source;
       destination = destination;
       limits = limits;
@@ -81,10 +78,7 @@ module _ (req : Request) (st : State) (source destination : NodeAddress) where
           bound-right = passed.bound;
           some_domain_lem = sound.some_domain_lem;
           most = sound.most;
-          domains-long = sound.domains-long;
-          pinned_long = sound.pinned_long;
-          pins-long = sound.pins-long;
-          named-long = sound.named-long;
+          stops-long = sound.stops-long;
           known = inside;
           placed = placed;
           apart = meaning-different (reading_input req.profile) req.ingress req.include (query_stops req.include q) means;

@@ -34,10 +34,7 @@ module _ (x : Round) (q : Query) where
         bound-right = r.bound-right;
         some_domain_lem = r.some_domain_lem;
         most = r.most;
-        domains-long = r.domains-long;
-        pinned_long = r.pinned_long;
-        pins-long = r.pins-long;
-        named-long = r.named-long;
+        stops-long = r.stops-long;
         known = r.known;
         placed = r.placed;
         apart = r.apart;

@@ -1,5 +1,5 @@
 -- What the code's query stands for, over the definitions of `model`.
-use Rattle.std.specs.Prelude.{◌≡◌, true, List, map, ℕ, ◌-◌, ◌≤◌, ◌<◌, length, get_or}
+use Rattle.std.specs.Prelude.{◌≡◌, true, List, map, ℕ, ◌-◌, ◌≤◌, ◌<◌, length}
 use Rattle.model.specs.Verdict.{Pass}
 use Rattle.model.specs.declared.ListKind.TheVariants.{Include, Exclude}
 use Rattle.model.specs.declared.Round.{Round}
@@ -14,22 +14,22 @@ use Rattle.model.specs.Request.{Search, all_exclusions}
 use Rattle.model.specs.Rounds.{round_by}
 use Rattle.laws.specs.Lists.{Lists}
 use Rattle.laws.specs.Exrs.{Stretch}
-use Rattle.laws.specs.Stops.{domain_in, stretch_start, stop_in, stops_of}
+use Rattle.laws.specs.Stops.{domain_in, named_in, stretch_start, stop_in, stops_of}
 use Rattle.request.specs.declared.Query.{Query}
 
 -- domain i of the sequence, alone and with its entry constraint and its EXRS, and the whole sequence, over the include list
 abbrev pub query_domain : Query → ℕ → ℕ
-query_domain q = domain_in q.domains
+query_domain q = domain_in q.stops
 
 abbrev pub query_stop : List ℕ → Query → ℕ → Stop
-query_stop include q = stop_in include q.domains q.pinned q.pins q.named
+query_stop include q = stop_in include q.stops
 
 abbrev pub query_stops : List ℕ → Query → List Stop
-query_stops include q = stops_of include q.count q.domains q.pinned q.pins q.named
+query_stops include q = stops_of include q.count q.stops
 
 -- where the subobject stands that named the last domain
 abbrev pub last_named : Query → ℕ
-last_named q = get_or q.named (q.count - 1) 0
+last_named q = named_in q.stops (q.count - 1)
 
 -- the search that a query stands for in its round, over a profile and the two lists
 abbrev pub search_for : Layout → List ℕ → Lists → Query → Search
@@ -50,10 +50,7 @@ abbrev pub in_round : Round → Query → Query
 in_round x q =
     record {
       count = q.count;
-      domains = q.domains;
-      pinned = q.pinned;
-      pins = q.pins;
-      named = q.named;
+      stops = q.stops;
       source = q.source;
       destination = q.destination;
       limits = q.limits;
@@ -75,10 +72,7 @@ pub record Ready (L : Layout) (profile : List ℕ) (lists : Lists) (q : Query) :
   pub bound-right : q.limits.bounded ≡ true → in_range q.limits.bound ≡ true
   pub some_domain_lem : 1 ≤ q.count
   pub most : q.count ≤ 16
-  pub domains-long : length q.domains ≡ 16
-  pub pinned_long : length q.pinned ≡ 16
-  pub pins-long : length q.pins ≡ 16
-  pub named-long : length q.named ≡ 16
+  pub stops-long : length q.stops ≡ 16
   pub known : (i : ℕ) → i < q.count → query_domain q i < domain_count profile
-  pub placed : (i : ℕ) → i < q.count → Stretch lists.include (stretch_start q.named i) (get_or q.named i 0)
+  pub placed : (i : ℕ) → i < q.count → Stretch lists.include (stretch_start q.stops i) (named_in q.stops i)
   pub apart : all_different (domains_of (query_stops lists.include q)) ≡ true

@@ -9,7 +9,7 @@ ghost use Rattle.request.specs.Query.{in_round};
 
 use crate::checks::request_verdict;
 use list_include::read_list;
-use model::{DomainIndex, Limits, NodeAddress, Refusal, Round};
+use model::{DomainIndex, Limits, NamedStop, NodeAddress, Refusal, Round};
 
 pub mod checks;
 pub mod floats;
@@ -24,16 +24,12 @@ pub struct Asked {
     pub limits: Limits,
 }
 
-// What a search needs of an accepted request beside the profile and the two lists: the sequence of `count` domains with their entry constraints and where in the
-// include list the subobjects stand that named them (the EXRS of a domain are those between the one that named the domain before and its own), where a path starts
-// and ends, the limits, and the round in which it is looked for.
+// What a search needs of an accepted request beside the profile and the two lists: the sequence of `count` domains (the EXRS of a domain are those in the include
+// list between the subobject that named the domain before and its own), where a path starts and ends, the limits, and the round in which it is looked for.
 #[derive(Clone, Copy)]
 pub struct Query {
     pub count: usize,
-    pub domains: [DomainIndex; 16],
-    pub pinned: [u8; 16],
-    pub pins: [NodeAddress; 16],
-    pub named: [u16; 16],
+    pub stops: [NamedStop; 16],
     pub source: NodeAddress,
     pub destination: NodeAddress,
     pub limits: Limits,
@@ -51,16 +47,10 @@ pub fn read_query(
     ensures { RequestIs profile.now asked include.now exclude.now result }
 {
     let st = read_list(profile, asked.ingress, include)?;
-    let domains = st.domains;
-    let pinned = st.pinned;
-    let pins = st.pins;
-    let named = st.named;
+    let stops = st.stops;
     Ok(Query {
         count: st.count,
-        domains,
-        pinned,
-        pins,
-        named,
+        stops,
         source: asked.source,
         destination: asked.destination,
         limits: asked.limits,

@@ -1,8 +1,8 @@
--- `list_include::state::add` meets its contract: the four arrays have the new domain at the end, so the state stands for the longer sequence.
-use Rattle.list_include.proofs.States.{added_state, marked, noded}
+-- `list_include::state::add` meets its contract: the array has the new domain at the end, so the state stands for the longer sequence.
+use Rattle.list_include.proofs.States.{added_state}
 use Rattle.list_include.proofs.state.add.Goals as goal
 
 pub returns : goal.returns
 returns c =
     let a = c.args in
-    added_state a.st a.at a.d c.requires.0 c.requires.1 _ _ (marked a.st.pin _ c.is_some.ensures) (noded a.st.pin _ c.unwrap_or.ensures)
+    added_state a.st a.at a.d c.requires.0 c.requires.1
