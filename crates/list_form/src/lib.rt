@@ -18,7 +18,7 @@ use refusal::refuse_at;
 use wire::{u16_at, u32_at, wide};
 
 // An area's length rounded up to 4.
-fn rounded_up(n: u8) -> u32
+pub fn rounded_up(n: u8) -> u32
     ensures { (result ≡ rounded_up n) × (result ≤ 260) }
 {
     (n as u32 + 3) / 4 * 4

@@ -2,4 +2,6 @@ pub mod Steps
 pub mod Stretches
 pub mod Outcomes
 pub mod WrittenParts
+mod Unwritable
+mod Sums
 mod Scans

@@ -1,6 +1,7 @@
 -- One turn of the loops along a sequence: what is written for the domain at a place, how long it is, and what is left to write after it. From the laws of sequences by
 -- index and of accepted profiles.
-use Prim.Native.Nat.{ℕ, zero, suc, ◌+◌, ◌-◌, ◌≤◌, ◌<◌}
+use Rattle.std.specs.Prelude as Std
+use Prim.Native.Nat.{ℕ, suc, ◌+◌, ◌-◌, ◌≤◌, ◌<◌}
 use native.Mathlib.Numerals.{add-one}
 use native.Mathlib.Nat.{zero-add}
 use native.Mathlib.Omega.{arith}
@@ -29,13 +30,13 @@ use Rattle.list_writer.specs.Writing.{AreaRight, before_of, system_again, stop_b
 use Rattle.list_writer.proofs.Stretches.{lent}
 use Rattle.list_writer.proofs.WrittenParts.{stop-long}
 
-again_system : (i before asn : ℕ) → system_if (system_again i before asn) asn ≡ system_after (before_of i before) asn
-again_system zero before asn = refl
-again_system (suc i) before asn = refl
+again_system : (before : Std.Option ℕ) (asn : ℕ) → system_if (system_again before asn) asn ≡ system_after (before_of before) asn
+again_system Std.None asn = refl
+again_system (Std.Some before) asn = refl
 
 -- what is left to write from place i on, where `before` is the AS of the domain before it
-abbrev pub left : List ℕ → List ℕ → List ℕ → List ℕ → List ℕ → List ℕ → ℕ → ℕ → List ℕ
-left profile indexes marks nodes counts exrs i before = written_from (domains profile) (before_of i before) (stops_from (domains profile) indexes marks nodes counts exrs i)
+abbrev pub left : List ℕ → List ℕ → List ℕ → List ℕ → List ℕ → List ℕ → ℕ → Std.Option ℕ → List ℕ
+left profile indexes marks nodes counts exrs i before = written_from (domains profile) (before_of before) (stops_from (domains profile) indexes marks nodes counts exrs i)
 
 module _ {profile indexes marks nodes counts exrs : List ℕ} (w : Fitting profile indexes marks nodes counts exrs) where
   facts : AcceptedProfile (layout_in profile) profile
@@ -65,42 +66,46 @@ module _ {profile indexes marks nodes counts exrs : List ℕ} (w : Fitting profi
     named : domain_of (domains profile) (get_or indexes i 0) ≡ domain_at profile (get_or indexes i 0)
     named = domain_at_lem profile (get_or indexes i 0) no_domain below-count
 
-    module _ (before : ℕ) (again : Bool) (d : Domain) (e : d ≡ domain_at profile (get_or indexes i 0)) (f : again ≡ system_again i before d.asn) where
+    module _ (before : Std.Option ℕ) (pin : Option ℕ) (again : Bool) (d : Domain) (e : d ≡ domain_at profile (get_or indexes i 0)) (f : again ≡ system_again before d.asn) (g : pin ≡ pin_if (get_or marks i 0) (get_or nodes i 0)) where
       abbrev own : List ℕ
       own = exrs_at (domains profile) indexes marks nodes counts exrs i
 
       abbrev rest : List ℕ
-      rest = left profile indexes marks nodes counts exrs (i + 1) d.asn
+      rest = left profile indexes marks nodes counts exrs (i + 1) (Std.Some d.asn)
 
-      first_left : left profile indexes marks nodes counts exrs i before ≡ stop_bytes (get_or marks i 0) (get_or nodes i 0) own again d ++ rest
+      first_left : left profile indexes marks nodes counts exrs i before ≡ stop_bytes pin own again d ++ rest
       first_left =
-          let pin : Option ℕ = pin_if (get_or marks i 0) (get_or nodes i 0) in
           rw add-one
-          (written_at (domains profile) indexes marks nodes counts exrs i h fit.as_many_marks fit.as_many_nodes fit.as_many_counts (before_of i before)
+          (written_at (domains profile) indexes marks nodes counts exrs i h fit.as_many_marks fit.as_many_nodes fit.as_many_counts (before_of before)
+          ∙ ap
+          (λ (p : Option ℕ).
+          written_stop (before_of before) p own (domain_of (domains profile) (get_or indexes i 0))
+          ++ written_from (domains profile) (some (domain_of (domains profile) (get_or indexes i 0)).asn) (stops_from (domains profile) indexes marks nodes counts exrs (suc i)))
+          (sym g)
           ∙ ap
           (λ (x : Domain).
-          written_stop (before_of i before) pin own x
+          written_stop (before_of before) pin own x
           ++ written_from (domains profile) (some x.asn) (stops_from (domains profile) indexes marks nodes counts exrs (suc i)))
           (named ∙ sym e)
           ∙ ap
-          (λ (s : List ℕ). written_pin pin ++ (own ++ (s ++ written_area d.kind d)) ++ left profile indexes marks nodes counts exrs (suc i) d.asn)
-          (sym (ap (λ (b : Bool). system_if b d.asn) f ∙ again_system i before d.asn)))
+          (λ (s : List ℕ). written_pin pin ++ (own ++ (s ++ written_area d.kind d)) ++ left profile indexes marks nodes counts exrs (suc i) (Std.Some d.asn))
+          (sym (ap (λ (b : Bool). system_if b d.asn) f ∙ again_system before d.asn)))
 
       -- how long it is
       pub left_long : length (left profile indexes marks nodes counts exrs i before)
-          ≡ named_size (get_or marks i 0) (get_or nodes i 0) again d + get_or counts i 0 + length rest
+          ≡ named_size pin again d + get_or counts i 0 + length rest
       left_long =
           let c = fit.as_many_counts in
           omega
-          (arith, ap length first_left, length-append (stop_bytes (get_or marks i 0) (get_or nodes i 0) own again d) rest, stop-long (get_or marks i 0) (get_or nodes i 0) own again d, exrs-long counts exrs fit.all_bytes i (omega arith) (domains profile) indexes marks nodes)
+          (arith, ap length first_left, length-append (stop_bytes pin own again d) rest, stop-long pin own again d, exrs-long counts exrs fit.all_bytes i (omega arith) (domains profile) indexes marks nodes)
 
       -- the domain's bytes, with the part of the EXRS' bytes that the code lends, have room where all that is left has; where they are put, the rest is left
-      module _ (from to : ℕ) (g : from ≡ bytes_before counts i) (t : to ≡ from + get_or counts i 0) where
+      module _ (from to : ℕ) (u : from ≡ bytes_before counts i) (t : to ≡ from + get_or counts i 0) where
         abbrev bytes : List ℕ
-        bytes = stop_bytes (get_or marks i 0) (get_or nodes i 0) (take (to - from) (drop from exrs)) again d
+        bytes = stop_bytes pin (take (to - from) (drop from exrs)) again d
 
         lent_left : left profile indexes marks nodes counts exrs i before ≡ bytes ++ rest
-        lent_left = first_left ∙ ap (λ (x : List ℕ). stop_bytes (get_or marks i 0) (get_or nodes i 0) x again d ++ rest) (lent counts exrs i from to g t)
+        lent_left = first_left ∙ ap (λ (x : List ℕ). stop_bytes pin x again d ++ rest) (lent counts exrs i from to u t)
 
         pub turn_room : (at : ℕ) (out : List ℕ) → at + length (left profile indexes marks nodes counts exrs i before) ≤ length out → at + length bytes ≤ length out
         turn_room at out k = omega (arith, ap length lent_left, length-append bytes rest)
@@ -116,8 +121,8 @@ module _ {profile indexes marks nodes counts exrs : List ℕ} (w : Fitting profi
             → next + length rest ≡ at + length (left profile indexes marks nodes counts exrs i before)
         turn_long at next out new p = omega (arith, p.next, ap length lent_left, length-append bytes rest)
 
-pub nothing_left : (profile indexes marks nodes counts exrs : List ℕ) (i before : ℕ) → length indexes ≤ i → left profile indexes marks nodes counts exrs i before ≡ []
-nothing_left profile indexes marks nodes counts exrs i before h = written-end (domains profile) indexes marks nodes counts exrs i (before_of i before) h
+pub nothing_left : (profile indexes marks nodes counts exrs : List ℕ) (i : ℕ) (before : Std.Option ℕ) → length indexes ≤ i → left profile indexes marks nodes counts exrs i before ≡ []
+nothing_left profile indexes marks nodes counts exrs i before h = written-end (domains profile) indexes marks nodes counts exrs i (before_of before) h
 
 -- from the start on: over the start
 pub from_start : (run old : List ℕ) → placed 0 run old ≡ over run old

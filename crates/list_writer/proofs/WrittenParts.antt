@@ -3,52 +3,41 @@ use mathlib.Core.Path.{◌≡◌, refl, sym, ap, subst, ◌∙◌}
 use mathlib.Core.Logic.{◌⊎◌, ⊎_elim}
 use mathlib.Core.Bool.{Bool, true, false}
 use mathlib.Core.List.{List, [], ◌∷◌, ◌++◌, append-nil}
-use mathlib.Core.Option.{Option, some}
+use mathlib.Core.Option.{Option}
+use Rattle.std.specs.Prelude as Std
 use Prim.Native.Nat.{ℕ, zero, suc, ◌+◌, ◌*◌, ◌-◌, ◌≤◌}
 use native.Mathlib.Omega.{arith}
 use lib.ListN.{length, take, drop, replicate, length-append}
 use lib.Seq.{length-take-le, take-length}
 use Rattle.model.specs.declared.Domain.{Domain}
+use Rattle.model.specs.declared.NodeAddress.{NodeAddress}
 use Rattle.model.specs.Bytes.{bytes_of}
 use Rattle.model.specs.Profile.{area_length_fits}
 use Rattle.model.specs.Subobject.{rounded_up}
-use Rattle.model.specs.WrittenList.{written_pin, pin_if, system_if, written_area}
+use Rattle.model.specs.WrittenList.{written_pin, system_if, written_area}
 use Rattle.laws.proofs.AreaLengths.{fits-cases, fits-short}
 use Rattle.buffers.specs.Placed.{Put}
-use Rattle.list_writer.specs.Writing.{AreaRight, stop_bytes, named_size}
-use Rattle.buffers.proofs.Places.{take-replicate, nothing_put, put_append, number_put}
+use Rattle.list_writer.specs.Writing.{AreaRight, node_of, stop_bytes, named_size}
+use Rattle.buffers.proofs.Places.{take-replicate, put_append, number_put}
 
 -- ---- what the code puts
 
-pub no_pin : (mark node at : ℕ) (s : List ℕ) → mark ≡ 0 → Put at (written_pin (pin_if mark node)) s s at
-no_pin mark node at s e = subst (λ (m : ℕ). Put at (written_pin (pin_if m node)) s s at) (sym e) (nothing_put s at)
-
-pinned : (mark node : ℕ) → (mark ≡ 0 → ⊥) → pin_if mark node ≡ some node
-pinned zero node h = absurd (h refl)
-pinned (suc m) node h = refl
-
-pub no_pin-long : (mark node : ℕ) → mark ≡ 0 → length (written_pin (pin_if mark node)) ≡ 0
-no_pin-long mark node e = ap (λ (m : ℕ). length (written_pin (pin_if m node))) e
-
-pub pin-long : (mark node : ℕ) → (mark ≡ 0 → ⊥) → length (written_pin (pin_if mark node)) ≡ 8
+pub pin-long : (pin : Std.Option NodeAddress) (node : NodeAddress) → pin ≡ Std.Some node → length (written_pin (node_of pin)) ≡ 8
 unfolding bytes_of
-pin-long mark node h = ap (λ (p : Option ℕ). length (written_pin p)) (pinned mark node h)
+pin-long pin node e = ap (λ (p : Std.Option NodeAddress). length (written_pin (node_of p))) e
 
-pub pin_put : (mark node at : ℕ) (s a b c : List ℕ) → (mark ≡ 0 → ⊥) → at + 8 ≤ length s
+pub pin_put : (pin : Std.Option NodeAddress) (node : NodeAddress) (at : ℕ) (s a b c : List ℕ) → pin ≡ Std.Some node → at + 8 ≤ length s
     → a ≡ take at s ++ bytes_of 2 0x0108 ++ drop (at + 2) s
-    → b ≡ take (at + 2) a ++ bytes_of 4 node ++ drop (at + 2 + 4) a
+    → b ≡ take (at + 2) a ++ bytes_of 4 node.0 ++ drop (at + 2 + 4) a
     → c ≡ take (at + 6) b ++ bytes_of 2 0x2000 ++ drop (at + 6 + 2) b
-    → Put at (written_pin (pin_if mark node)) s c (at + 8)
+    → Put at (written_pin (node_of pin)) s c (at + 8)
 unfolding bytes_of
-pin_put mark node at s a b c m h e f g =
-    let whole : Put at (bytes_of 2 0x0108 ++ bytes_of 4 node ++ bytes_of 2 0x2000) s c (at + 8) =
+pin_put pin node at s a b c m h e f g =
+    let whole : Put at (bytes_of 2 0x0108 ++ bytes_of 4 node.0 ++ bytes_of 2 0x2000) s c (at + 8) =
     put_append (omega arith)
-    (put_append (omega arith) (number_put 2 0x0108 at (at + 2) s a refl e) (number_put 4 node (at + 2) (at + 6) a b (omega arith) f))
+    (put_append (omega arith) (number_put 2 0x0108 at (at + 2) s a refl e) (number_put 4 node.0 (at + 2) (at + 6) a b (omega arith) f))
     (number_put 2 0x2000 (at + 6) (at + 8) b c (omega arith) g) in
-    subst (λ (p : Option ℕ). Put at (written_pin p) s c (at + 8)) (sym (pinned mark node m)) whole
-
-pub no_system : (again : Bool) (asn at : ℕ) (s : List ℕ) → again ≡ true → Put at (system_if again asn) s s at
-no_system again asn at s e = subst (λ (b : Bool). Put at (system_if b asn) s s at) (sym e) (nothing_put s at)
+    subst (λ (p : Std.Option NodeAddress). Put at (written_pin (node_of p)) s c (at + 8)) (sym m) whole
 
 pub system-long : (again : Bool) (asn : ℕ) → again ≡ false → length (system_if again asn) ≡ 8
 unfolding bytes_of
@@ -60,9 +49,6 @@ pub system_put : (again : Bool) (asn at rest : ℕ) (s a b : List ℕ) → again
     → Put at (system_if again asn) s b (rest + 4)
 system_put again asn at rest s a b e h p f =
     subst (λ (t : Bool). Put at (system_if t asn) s b (rest + 4)) (sym e) (put_append h p (number_put 4 asn rest (rest + 4) a b refl f))
-
-pub no_area : (d : Domain) (at : ℕ) (s : List ℕ) → d.kind ≡ 0 → Put at (written_area d.kind d) s s at
-no_area d at s e = subst (λ (k : ℕ). Put at (written_area k d) s s at) (sym e) (nothing_put s at)
 
 -- an area kind is at most 2, and what its subobject tells of the length is a byte
 module _ (k n : ℕ) (f : area_length_fits k n ≡ true) where
@@ -134,5 +120,5 @@ pub whole_put : {at next : ℕ} {run old new : List ℕ} → Put at (take (lengt
 whole_put {at} {next} {run} {old} {new} p = subst (λ (s : List ℕ). Put at s old new next) (take-length run) p
 
 -- the parts of a domain together
-pub stop-long : (mark node : ℕ) (exrs : List ℕ) (again : Bool) (d : Domain) → length (stop_bytes mark node exrs again d) ≡ named_size mark node again d + length exrs
-stop-long mark node exrs again d = simp length-append (omega arith)
+pub stop-long : (pin : Option ℕ) (exrs : List ℕ) (again : Bool) (d : Domain) → length (stop_bytes pin exrs again d) ≡ named_size pin again d + length exrs
+stop-long pin exrs again d = simp length-append (omega arith)

@@ -1,22 +1,22 @@
 // The subobjects of a written list, each put into a buffer from a place on. Each writer answers the place after what it put.
 ghost use Rattle.std.specs.Prelude.{◌+◌, ◌-◌, ◌≤◌, length};
-ghost use Rattle.model.specs.WrittenList.{written_pin, pin_if, system_if, written_area};
+ghost use Rattle.model.specs.WrittenList.{written_pin, system_if, written_area};
 ghost use Rattle.buffers.specs.Placed.{Put};
-ghost use Rattle.list_writer.specs.Writing.{AreaRight, stop_bytes};
+ghost use Rattle.list_writer.specs.Writing.{AreaRight, node_of, stop_bytes};
 
-use crate::sizes::rounded_up;
 use buffers::put_bytes;
+use list_form::rounded_up;
 use model::{Domain, NodeAddress};
 use wire::{put_u16, put_u32};
 
 // Type 1, prefix length 32: an entry constraint, where there is one.
-fn put_pin(out: &mut [u8], at: usize, mark: u8, node: NodeAddress) -> usize
-    requires { at + length (written_pin (pin_if mark node.0)) ≤ length out.old }
-    ensures { Put at (written_pin (pin_if mark node.0)) out.old out.new result }
+fn put_pin(out: &mut [u8], at: usize, pin: Option<NodeAddress>) -> usize
+    requires { at + length (written_pin (node_of pin)) ≤ length out.old }
+    ensures { Put at (written_pin (node_of pin)) out.old out.new result }
 {
-    if mark == 0 {
+    let Some(node) = pin else {
         return at;
-    }
+    };
     put_u16(out, at, 0x0108);
     put_u32(out, at + 2, node.0);
     put_u16(out, at + 6, 0x2000);
@@ -48,7 +48,7 @@ fn put_area(out: &mut [u8], at: usize, d: Domain) -> usize
     }
     let n = d.length;
     let size = n as usize;
-    let padded = rounded_up(n);
+    let padded = rounded_up(n) as usize;
     let head: [u8; 4] = [5 + kind, (4 + padded) as u8, (kind - 1) * n, 0];
     let start = put_bytes(out, at, &head, 4);
     let area = d.area;
@@ -61,16 +61,15 @@ fn put_area(out: &mut [u8], at: usize, d: Domain) -> usize
 pub fn put_stop(
     out: &mut [u8],
     at: usize,
-    mark: u8,
-    node: NodeAddress,
+    pin: Option<NodeAddress>,
     exrs: &[u8],
     again: bool,
     d: Domain,
 ) -> usize
-    requires { (at + length (stop_bytes mark node.0 exrs.now again d) ≤ length out.old) × AreaRight d }
-    ensures { Put at (stop_bytes mark node.0 exrs.now again d) out.old out.new result }
+    requires { (at + length (stop_bytes (node_of pin) exrs.now again d) ≤ length out.old) × AreaRight d }
+    ensures { Put at (stop_bytes (node_of pin) exrs.now again d) out.old out.new result }
 {
-    let stretch = put_pin(out, at, mark, node);
+    let stretch = put_pin(out, at, pin);
     let system = put_bytes(out, stretch, exrs, exrs.len());
     let area = put_system(out, system, again, d.asn);
     put_area(out, area, d)

@@ -6,7 +6,7 @@ use lib.ListN.{length, take}
 use lib.Seq.{length-take-le}
 use Rattle.model.specs.Subobject.{rounded_up}
 use Rattle.laws.proofs.AreaLengths.{fits-short}
-use Rattle.list_writer.proofs.WrittenParts.{no_area, kind-small, told-small, area-long, area_put}
+use Rattle.list_writer.proofs.WrittenParts.{kind-small, told-small, area-long, area_put}
 use borrow.Author.Rules.{rules}
 use Rattle.list_writer.proofs.parts.put_area.Goals as goal
 use Rattle.list_writer.proofs.parts.put_area.Goals.{Else-kind-eq0}
@@ -17,11 +17,6 @@ room c = omega (arith, c.requires.0, area-long c.args.d c.requires.1 c.if-kind-e
 
 short : (c : Else-kind-eq0) → c.args.d.length ≤ 13
 short c = let d = c.args.d in fits-short d.kind d.length c.requires.1.fits
-
-pub returns-then-kind-eq0 : goal.returns-then-kind-eq0
-returns-then-kind-eq0 c =
-    let a = c.args in
-    no_area a.d a.at a.out.now c.if-kind-eq0.true
 
 pub overflow_add-head : goal.overflow_add-head
 overflow_add-head c =
@@ -61,4 +56,4 @@ pub returns : goal.returns
 returns c =
     let a = c.args in
     let h = room (goal.at.returns c).Else-kind-eq0 in
-    area_put a.d a.at _ _ _ _ a.out.now _ _ _ c.requires.1 c.if-kind-eq0.false (omega arith) c.rounded_up-padded.ensures c.put_bytes-start.ensures c.put_bytes-end.ensures c.put_bytes.ensures
+    area_put a.d a.at _ _ _ _ a.out.now _ _ _ c.requires.1 c.if-kind-eq0.false (omega arith) c.rounded_up-padded.ensures.0 c.put_bytes-start.ensures c.put_bytes-end.ensures c.put_bytes.ensures

@@ -4,8 +4,8 @@ use Rattle.laws.proofs.AreaLengths.{fits-short}
 use Rattle.list_writer.proofs.WrittenParts.{area-long}
 use Rattle.list_writer.proofs.sizes.area_size.Goals as goal
 
-pub returns : goal.returns
-returns c =
+pub returns-else-d-eq0 : goal.returns-else-d-eq0
+returns-else-d-eq0 c =
     let d = c.args.d in
     let short = fits-short d.kind d.length c.requires.fits in
     let long = area-long d c.requires c.if-d-eq0.false in

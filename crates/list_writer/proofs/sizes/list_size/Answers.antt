@@ -1,5 +1,5 @@
 -- `list_writer::sizes::list_size` meets its contract. The loop's invariant: the size so far and what is left from place i on are the written list's; a domain takes at
--- most 36 bytes beside its EXRS. The measure is what is left of the sequence.
+-- most 36 bytes beside its EXRS.
 use Prim.Native.Nat.{◌≤◌, ◌+◌}
 use mathlib.Core.Path.{sym, ap, subst}
 use native.Mathlib.Omega.{arith}
@@ -23,7 +23,7 @@ stretch c =
 
 pub loop-i-init : goal.loop-i-init
 unfolding written sum
-loop-i-init c = (omega arith, omega arith, omega arith)
+loop-i-init c = (omega arith, omega arith)
 
 pub domain_at-d-requires : goal.domain_at-d-requires
 domain_at-d-requires c = inside c.requires.0 c.loop-i.i c.loop-i-test.true
@@ -31,13 +31,16 @@ domain_at-d-requires c = inside c.requires.0 c.loop-i.i c.loop-i-test.true
 pub bounds-marks-i : goal.bounds-marks-i
 bounds-marks-i c = let t = (fit c.requires.0).as_many_marks in omega arith
 
+pub bounds-nodes-i : goal.bounds-nodes-i
+bounds-nodes-i c = let t = (fit c.requires.0).as_many_nodes in omega arith
+
 pub named_size-size-requires : goal.named_size-size-requires
 named_size-size-requires c = subst AreaRight (sym c.domain_at-d.ensures) (area-right c.requires.0 c.loop-i.i c.loop-i-test.true)
 
 pub overflow_add-size : goal.overflow_add-size
 overflow_add-size c =
     let end = stretch (goal.at.overflow_add-size c).In-loop-i in
-    omega (arith, c.requires.0.most, c.requires.1, c.loop-i.invariant.1, c.named_size-size.ensures.0)
+    omega (arith, c.requires.0.most, c.requires.1, c.loop-i.invariant.0, c.named_size-size.ensures.0)
 
 pub offset_bounds-counts-i : goal.offset_bounds-counts-i
 offset_bounds-counts-i c = let t = (fit c.requires.0).as_many_counts in omega arith
@@ -48,16 +51,15 @@ bounds-counts-i c = let t = (fit c.requires.0).as_many_counts in omega arith
 pub overflow_add-size-in-loop-i : goal.overflow_add-size-in-loop-i
 overflow_add-size-in-loop-i c =
     let end = stretch (goal.at.overflow_add-size-in-loop-i c).In-loop-i in
-    omega (arith, c.requires.0.most, c.requires.1, c.loop-i.invariant.1, c.named_size-size.ensures.0)
+    omega (arith, c.requires.0.most, c.requires.1, c.loop-i.invariant.0, c.named_size-size.ensures.0)
 
 pub loop-i-preserved : goal.loop-i-preserved
 loop-i-preserved c =
     let a = c.args in
     let i = c.loop-i.i in
-    let node = get_or a.nodes.now i 0 in
     let next = bytes-further a.counts.now i (omega (arith, (fit c.requires.0).as_many_counts)) in
-    let long = left_long c.requires.0 i c.loop-i-test.true c.loop-i.before c.same_system-again.result c.domain_at-d.result c.domain_at-d.ensures c.same_system-again.ensures in
-    (omega arith, omega (arith, c.loop-i.invariant.1, c.named_size-size.ensures.0), omega (arith, c.loop-i.invariant.2, c.named_size-size.ensures.1 node))
+    let long = left_long c.requires.0 i c.loop-i-test.true c.loop-i.before _ c.same_system-again.result c.domain_at-d.result c.domain_at-d.ensures c.same_system-again.ensures c.pin_of.ensures in
+    (omega (arith, c.loop-i.invariant.0, c.named_size-size.ensures.0), omega (arith, c.loop-i.invariant.1, c.named_size-size.ensures.1))
 
 pub returns : goal.returns
 returns c =

@@ -1,6 +1,6 @@
 -- `list_writer::sizes::list_size` meets its contract. The loop's invariant: the size so far and what is left from place i on are the written list's; a domain takes at
--- most 36 bytes beside its EXRS. The measure is what is left of the sequence.
-use Prim.Native.Nat.{◌≤◌, ◌+◌, ◌*◌, ◌-◌}
+-- most 36 bytes beside its EXRS.
+use Prim.Native.Nat.{◌≤◌, ◌+◌, ◌*◌}
 use mathlib.Core.Path.{◌≡◌}
 use lib.ListN.{length}
 use Rattle.model.specs.Profile.{domains}
@@ -11,9 +11,5 @@ use Rattle.list_writer.proofs.sizes.list_size.Given as goal
 
 abbrev pub invariant-loop-i : goal.invariant-loop-i
 invariant-loop-i l =
-    (l.i ≤ length l.indexes)
-    × (l.size ≤ 36 * l.i + bytes_before l.counts l.i)
+    (l.size ≤ 36 * l.i + bytes_before l.counts l.i)
     × (l.size + length (left l.profile l.indexes l.marks l.nodes l.counts l.exrs l.i l.before) ≡ length (written (domains l.profile) (stops l.indexes l.marks l.nodes l.counts l.exrs)))
-
-abbrev pub decreases-loop-i : goal.decreases-loop-i
-decreases-loop-i l = length l.indexes - l.i

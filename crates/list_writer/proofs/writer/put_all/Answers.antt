@@ -1,5 +1,5 @@
 -- `list_writer::writer::put_all` meets its contract. The loop's invariant: were what is left from place i on put now, the buffer would be the one asked for; it has room
--- for that, and the EXRS of place i start behind those of the domains before. The measure is what is left of the sequence.
+-- for that, and the EXRS of place i start behind those of the domains before.
 use Prim.Native.Nat.{◌≤◌, ◌+◌}
 use mathlib.Core.Path.{refl, sym, subst, ◌∙◌}
 use native.Mathlib.Omega.{arith}
@@ -19,11 +19,11 @@ stretch : (c : In-loop-i) → c.loop-i.from + get_or c.args.counts.now c.loop-i.
 stretch c =
     let t = fit c.requires.0 in
     let m = t.as_many_counts in
-    omega (arith, c.loop-i.invariant.1, exrs-inside c.args.counts.now c.args.exrs.now t.all_bytes c.loop-i.i (omega (arith, c.loop-i-test.true)))
+    omega (arith, c.loop-i.invariant.0, exrs-inside c.args.counts.now c.args.exrs.now t.all_bytes c.loop-i.i (omega (arith, c.loop-i-test.true)))
 
 pub loop-i-init : goal.loop-i-init
 unfolding written sum
-loop-i-init c = (omega arith, refl, refl, omega arith, from_start _ _)
+loop-i-init c = (refl, refl, omega arith, from_start _ _)
 
 pub domain_at-d-requires : goal.domain_at-d-requires
 domain_at-d-requires c = inside c.requires.0 c.loop-i.i c.loop-i-test.true
@@ -50,7 +50,7 @@ pub put_stop-at-requires : goal.put_stop-at-requires
 put_stop-at-requires c =
     let l = c.loop-i in
     let h = c.loop-i-test.true in
-    (turn_room c.requires.0 l.i h l.before c.same_system-again.result c.domain_at-d.result c.domain_at-d.ensures c.same_system-again.ensures l.from _ l.invariant.1 refl l.at l.out (omega (arith, l.invariant.3, l.invariant.2, c.requires.1)), subst AreaRight (sym c.domain_at-d.ensures) (area-right c.requires.0 l.i h))
+    (turn_room c.requires.0 l.i h l.before _ c.same_system-again.result c.domain_at-d.result c.domain_at-d.ensures c.same_system-again.ensures c.pin_of.ensures l.from _ l.invariant.0 refl l.at l.out (omega (arith, l.invariant.2, l.invariant.1, c.requires.1)), subst AreaRight (sym c.domain_at-d.ensures) (area-right c.requires.0 l.i h))
 
 pub loop-i-preserved : goal.loop-i-preserved
 loop-i-preserved c =
@@ -60,11 +60,10 @@ loop-i-preserved c =
     let put = c.put_stop-at.ensures in
     let n = (fit c.requires.0).as_many_counts in
     let next = bytes-further a.counts.now l.i (omega arith) in (
-      omega arith,
-      omega (arith, l.invariant.1),
+      omega (arith, l.invariant.0),
       search rules,
-      turn_long c.requires.0 l.i h l.before c.same_system-again.result c.domain_at-d.result c.domain_at-d.ensures c.same_system-again.ensures l.from _ l.invariant.1 refl l.at _ l.out _ put ∙ l.invariant.3,
-      turn c.requires.0 l.i h l.before c.same_system-again.result c.domain_at-d.result c.domain_at-d.ensures c.same_system-again.ensures l.from _ l.invariant.1 refl l.at _ l.out _ (omega (arith, l.invariant.3, l.invariant.2, c.requires.1)) put ∙ l.invariant.4,
+      turn_long c.requires.0 l.i h l.before _ c.same_system-again.result c.domain_at-d.result c.domain_at-d.ensures c.same_system-again.ensures c.pin_of.ensures l.from _ l.invariant.0 refl l.at _ l.out _ put ∙ l.invariant.2,
+      turn c.requires.0 l.i h l.before _ c.same_system-again.result c.domain_at-d.result c.domain_at-d.ensures c.same_system-again.ensures c.pin_of.ensures l.from _ l.invariant.0 refl l.at _ l.out _ (omega (arith, l.invariant.2, l.invariant.1, c.requires.1)) put ∙ l.invariant.3,
     )
 
 pub returns : goal.returns
@@ -72,4 +71,4 @@ returns c =
     let a = c.args in
     let l = c.loop-i in
     let none = nothing_left a.profile.now a.indexes.now a.marks.now a.nodes.now a.counts.now a.exrs.now l.i l.before (omega arith) in
-    sym (none_placed _ l.out l.at none) ∙ l.invariant.4
+    sym (none_placed _ l.out l.at none) ∙ l.invariant.3

@@ -1,6 +1,6 @@
 -- `list_writer::writer::put_all` meets its contract. The loop's invariant: were what is left from place i on put now, the buffer would be the one asked for; it has room
--- for that, and the EXRS of place i start behind those of the domains before. The measure is what is left of the sequence.
-use Prim.Native.Nat.{◌≤◌, ◌+◌, ◌-◌}
+-- for that, and the EXRS of place i start behind those of the domains before.
+use Prim.Native.Nat.{◌+◌}
 use mathlib.Core.Path.{◌≡◌}
 use lib.ListN.{length}
 use Rattle.model.specs.Lists.{over}
@@ -13,11 +13,7 @@ use Rattle.list_writer.proofs.writer.put_all.Given as goal
 
 abbrev pub invariant-loop-i : goal.invariant-loop-i
 invariant-loop-i l =
-    (l.i ≤ length l.indexes)
-    × (l.from ≡ bytes_before l.counts l.i)
+    (l.from ≡ bytes_before l.counts l.i)
     × (length l.out ≡ length l.initial.out)
     × (l.at + length (left l.profile l.indexes l.marks l.nodes l.counts l.exrs l.i l.before) ≡ length (written (domains l.profile) (stops l.indexes l.marks l.nodes l.counts l.exrs)))
     × (placed l.at (left l.profile l.indexes l.marks l.nodes l.counts l.exrs l.i l.before) l.out ≡ over (written (domains l.profile) (stops l.indexes l.marks l.nodes l.counts l.exrs)) l.initial.out)
-
-abbrev pub decreases-loop-i : goal.decreases-loop-i
-decreases-loop-i l = length l.indexes - l.i
