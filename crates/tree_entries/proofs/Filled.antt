@@ -1,11 +1,12 @@
 -- The lent list while it is filled: one entry more, and all of them.
 use mathlib.Core.Path.{◌≡◌, sym, ◌∙◌, ap}
-use mathlib.Core.List.{List}
+use mathlib.Core.List.{List, ◌++◌}
 use Prim.Native.Nat.{ℕ, suc, ◌<◌, ◌≤◌}
 use native.Mathlib.Nat.{zero-add}
 use native.Mathlib.Omega.{arith}
-use lib.ListN.{length, take, set}
-use lib.Seq.{take_all}
+use lib.ListN.{length, take, drop, set}
+use lib.Seq.{take_all, length-take-le}
+use Rattle.std.proofs.lemmas.List.{append-nil, drop_all}
 use Rattle.model.specs.declared.TreeEntry.{TreeEntry}
 use Rattle.model.specs.Lists.{over}
 use Rattle.laws.proofs.Lists.{Copied-next}
@@ -33,5 +34,13 @@ module _ (n : ℕ) (levels addresses codes : List ℕ) where
       none : TreeEntry
       none = entry_at levels addresses codes 0
 
-  pub after_all : (old : List TreeEntry) → after old n ≡ over entries old
-  after_all old = ap (λ (l : List TreeEntry). over l old) (take_all n entries (omega (arith, length-entries)))
+  -- all are written over the first n, and what stands behind those is untouched
+  pub after_all : (old : List TreeEntry) → n ≤ length old → after (take n old) n ++ drop n old ≡ over entries old
+  unfolding over
+  after_all old h =
+      let m = length-entries in
+      let k = length-take-le n old h in
+      ap (λ (l : List TreeEntry). (l ++ drop (length l) (take n old)) ++ drop n old) (take_all n entries (omega arith))
+      ∙ ap (λ (l : List TreeEntry). (entries ++ l) ++ drop n old) (drop_all (length entries) (take n old) (omega arith))
+      ∙ ap (λ (l : List TreeEntry). l ++ drop n old) (append-nil entries)
+      ∙ ap (λ (i : ℕ). entries ++ drop i old) (sym m)

@@ -17,9 +17,9 @@ pub struct TreeTable {
     pub reaches: [u32; 242],
 }
 
-fn entry_of(tree: TreeTable, i: usize) -> TreeEntry
+fn entry_of(tree: &TreeTable, i: usize) -> TreeEntry
     requires { i < 241 }
-    ensures { result ≡ entry_at tree.level tree.addresses tree.reaches i }
+    ensures { result ≡ entry_at tree.now.level tree.now.addresses tree.now.reaches i }
 {
     let level = tree.level[i];
     let address = NodeAddress(tree.addresses[i]);
@@ -45,9 +45,7 @@ pub fn fill(entries: &mut [TreeEntry], tree: TreeTable, n: usize)
     requires { (n ≤ 241) × (n ≤ length entries.old) }
     ensures { entries.new ≡ over (entries_of n tree.level tree.addresses tree.reaches) entries.old }
 {
-    let mut i = 0;
-    while i < n {
-        entries[i] = entry_of(tree, i);
-        i += 1;
+    for (i, entry) in entries[..n].iter_mut().enumerate() {
+        *entry = entry_of(&tree, i);
     }
 }
