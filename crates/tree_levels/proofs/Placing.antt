@@ -1,12 +1,14 @@
 -- A part of a list put in the place of another (`placed`), cell by cell or as a whole, and a number put into an ascending part. By the laws of `take` and `drop`.
-use Prim.Native.Nat.{ℕ, suc, ◌+◌, ◌-◌, ◌≤◌, ◌<◌}
+use Prim.Native.Nat.{ℕ, zero, suc, ◌+◌, ◌-◌, ◌≤◌, ◌<◌}
 use native.Mathlib.Nat.{add-zero}
+use native.Mathlib.Numerals.{add-one}
 use native.Mathlib.Omega.{arith}
+use Rattle.std.proofs.lemmas.List.{drop-take}
 use mathlib.Core.Path.{◌≡◌, refl, sym, ap, ap₂, ◌∙◌}
 use mathlib.Core.Bool.{Bool, true, false, ◌&&◌}
 use mathlib.Core.List.{List, [], ◌∷◌, ◌++◌, append_assoc}
 use lib.ListN.{length, get_or, take, drop, set, length-append, take-append-drop}
-use lib.Seq.{slice, paste, paste-zero, paste-suc, length-paste, length_paste_head, take-length, take-take, take_at, drop_at, drop-drop, length-take-le, length-slice, get_or-append-add, get_or-drop, get_or-take}
+use lib.Seq.{slice, paste, paste-zero, length-paste, take-length, take-take, take_at, drop_at, drop-drop, length-take-le, length-slice}
 use lib.Dec.{eqb, ltb}
 use borrow.Author.Tests.{lt-ltb, le-ltb, eq-eqb, ne_eqb, ltb-true, eqb-true, eqb-false}
 use Rattle.model.specs.Lists.{insert_at, insert}
@@ -112,38 +114,24 @@ placed-nothing from old = sym (paste-zero old from [])
 abbrev pub shifted : List ℕ → ℕ → ℕ → ℕ → List ℕ
 shifted old at end x = x ∷ slice at end old
 
+-- x in the last of the first cells, and what comes after them
+put_last : (at : ℕ) (old rest : List ℕ) (x : ℕ) → at < length old → set (take (suc at) old ++ rest) at x ≡ take at old ++ (x ∷ rest)
+put_last at [] rest x h = absurd (omega arith)
+put_last zero (y ∷ ys) rest x h = refl
+put_last (suc at) (y ∷ ys) rest x h = ap {B = List ℕ} (λ (l : List ℕ). y ∷ l) (put_last at ys rest x (omega arith))
+
 module _ (old : List ℕ) (at end x : ℕ) (h : at ≤ end) (k : end < length old) where
-  long : length (shifted old at end x) ≡ suc (end - at)
-  long = ap suc (length-slice at end old (omega arith))
-
-  -- the store of a turn
-  pub shift-next : (j : ℕ) → at ≤ j → j ≤ end → set (paste old at (shifted old at end x) (j - at)) j (get_or (shifted old at end x) (j - at) 0) ≡ paste old at (shifted old at end x) (j + 1 - at)
-  shift-next j a b =
-      let here : at + (j - at) ≡ j = omega arith in
-      let next : suc (j - at) ≡ j + 1 - at = omega arith in
-      ap (λ (n : ℕ). set (paste old at (shifted old at end x) (j - at)) n (get_or (shifted old at end x) (j - at) 0)) (sym here)
-      ∙ paste-suc old at (shifted old at end x) (j - at) 0 (omega arith) (omega (arith, long))
-      ∙ ap (paste old at (shifted old at end x)) next
-
-  -- and the cell that it overwrites comes next
-  pub shift_carried : (j : ℕ) → at ≤ j → j + 1 ≤ end → get_or (paste old at (shifted old at end x) (j - at)) j 0 ≡ get_or (shifted old at end x) (j + 1 - at) 0
-  shift_carried j a b =
-      let p = take at old ++ take (j - at) (shifted old at end x) in
-      let here : at + (j - at) ≡ j = omega arith in
-      let head : length p ≡ at + (j - at) = length_paste_head old at (shifted old at end x) (j - at) (omega arith) (omega (arith, long)) in
-      let behind : j ≡ length p + 0 = omega arith in
-      let next : suc (j - at) ≡ j + 1 - at = omega arith in
-      ap (λ (n : ℕ). get_or (paste old at (shifted old at end x) (j - at)) n 0) behind
-      ∙ get_or-append-add p (drop (at + (j - at)) old) 0 0
-      ∙ get_or-drop (at + (j - at)) old 0 0
-      ∙ ap (λ (n : ℕ). get_or old n 0) (add-zero (at + (j - at)))
-      ∙ sym (get_or-drop at (take end old) (j - at) 0 ∙ get_or-take end old (at + (j - at)) 0 (omega arith))
-      ∙ ap (λ (n : ℕ). get_or (shifted old at end x) n 0) next
-
-  pub shift_all : paste old at (shifted old at end x) (suc end - at) ≡ placed at (shifted old at end x) old
-  shift_all =
-      let reaches : suc end - at ≡ length (shifted old at end x) = omega (arith, long) in
-      ap (paste old at (shifted old at end x)) reaches ∙ sym (placed_paste at (shifted old at end x) old)
+  -- moved one further, and x in the cell that is free then
+  pub shift : set (paste old (at + 1) (drop at old) (end - at)) at x ≡ placed at (shifted old at end x) old
+  shift =
+      let whole : at + (end - at) ≡ end = omega arith in
+      let moved : take (end - at) (drop at old) ≡ slice at end old = sym (drop-take at (end - at) old) ∙ ap (λ (n : ℕ). drop at (take n old)) whole in
+      let reaches : at + 1 + (end - at) ≡ at + length (shifted old at end x) = omega (arith, length-slice at end old (omega arith)) in
+      ap (λ (l : List ℕ). set l at x) (append_assoc (take (at + 1) old) (take (end - at) (drop at old)) (drop (at + 1 + (end - at)) old))
+      ∙ ap (λ (n : ℕ). set (take n old ++ (take (end - at) (drop at old) ++ drop (at + 1 + (end - at)) old)) at x) (add-one at)
+      ∙ put_last at old (take (end - at) (drop at old) ++ drop (at + 1 + (end - at)) old) x (omega arith)
+      ∙ ap₂ (λ (l : List ℕ) (n : ℕ). take at old ++ (x ∷ (l ++ drop n old))) moved reaches
+      ∙ sym (append_assoc (take at old) (shifted old at end x) (drop (at + length (shifted old at end x)) old))
 
 -- ---- a number put into the cells from `from` up to `end`, where it was sought
 

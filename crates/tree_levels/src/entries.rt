@@ -11,10 +11,7 @@ pub fn is_at(addresses: &[u32; 242], at: usize, end: usize, node: NodeAddress) -
     requires { end ≤ 242 }
     ensures { result ≡ ltb at end && eqb (get_or addresses.now at 0) node.0 }
 {
-    if end <= at {
-        return false;
-    }
-    addresses[at] == node.0
+    at < end && addresses[at] == node.0
 }
 
 // The first cell from `from` on, before `end`, whose address isn't below the node; else `end`.
@@ -22,14 +19,12 @@ fn seek(addresses: &[u32; 242], from: usize, end: usize, node: NodeAddress) -> u
     requires { (from ≤ end) × (end ≤ 242) }
     ensures { FoundNode addresses.now from end node.0 result }
 {
-    let mut at = from;
-    while at < end {
+    for at in from..end {
         if node.0 <= addresses[at] {
             return at;
         }
-        at += 1;
     }
-    at
+    end
 }
 
 // The node into the cell at `at`, and what stands from there up to `end` one cell further.
@@ -37,14 +32,8 @@ fn put_before(addresses: &mut [u32; 242], at: usize, end: usize, node: NodeAddre
     requires { (at ≤ end) × (end < 242) × (length addresses.old ≡ 242) }
     ensures { addresses.new ≡ placed at (node.0 ∷ slice at end addresses.old) addresses.old }
 {
-    let mut carried = node.0;
-    let mut j = at;
-    while j <= end {
-        let next = addresses[j];
-        addresses[j] = carried;
-        carried = next;
-        j += 1;
-    }
+    addresses.copy_within(at..end, at + 1);
+    addresses[at] = node.0;
 }
 
 // Where a part ends after a node was put in, and where the node stands.

@@ -41,10 +41,9 @@ pub fn collect(
         return from;
     }
     let mut start = hop_start(s, layout, first);
-    let mut i = first;
     let mut end = from;
     let mut next = from;
-    while i < last {
+    for _ in first..last {
         let head = NodeAddress(u32_at(s, start + 8));
         if !is_at(&*addresses, next, end, head) {
             let put = insert_at(addresses, from, end, head);
@@ -53,7 +52,6 @@ pub fn collect(
         }
         next = cell_after(from, end, next);
         start += layout.hop_size;
-        i += 1;
     }
     end
 }

@@ -79,16 +79,15 @@ pub fn lay_out(
     starts[1] = 1;
     let mut end: usize = 1;
     let mut examined: usize = 0;
-    let mut i = 0;
-    while i + 1 < count {
+    let last = count - 1;
+    for i in 0..last {
         let leg = note_leg(s, layout, domains[i], domains[i + 1], i, firsts, lasts);
         examined = tallied(examined, leg);
         end = collect(s, layout, leg.first, leg.last, addresses, end);
-        i += 1;
-        starts[i + 1] = end;
+        starts[i + 2] = end;
     }
-    let leg = note_leg(s, layout, domains[i], domains[i], i, firsts, lasts);
+    let leg = note_leg(s, layout, domains[last], domains[last], last, firsts, lasts);
     examined = tallied(examined, leg);
-    put_destination(destination, i + 1, end, addresses, starts);
+    put_destination(destination, count, end, addresses, starts);
     examined
 }

@@ -1,7 +1,7 @@
--- `tree_levels::lay_out` meets its contract. The loop's invariant: for every search over these domains, i legs are laid out (`Filled`). The measure is how many domains are left.
+-- `tree_levels::lay_out` meets its contract. For every search over these domains a turn lays out one leg more (`Filling`), and the last leg and the destination end it.
 use Prim.Native.Nat.{ℕ, ◌+◌, ◌-◌, ◌<◌}
 use native.Mathlib.Omega.{arith}
-use mathlib.Core.Path.{◌≡◌, ◌∙◌}
+use mathlib.Core.Path.{◌≡◌, subst, ◌∙◌}
 use native.Mathlib.Numerals.{add-one}
 use lib.ListN.{get_or, set, length-set}
 use lib.Seq.{get_or-set_same}
@@ -11,7 +11,7 @@ use Rattle.profile_records.specs.Layout.{layout_of}
 use Rattle.tree_levels.specs.Entries.{heads_of}
 use Rattle.tree_levels.specs.Levels.{Covers}
 use Rattle.tree_levels.proofs.Legs.{count-is}
-use Rattle.tree_levels.proofs.Filling.{filled-start, next-filled, last-filled, room-more, few-heads}
+use Rattle.tree_levels.proofs.Filling.{Filled, filled-start, next-filled, last-filled, room-more, few-heads}
 use Rattle.tree_levels.proofs.lay_out.Goals as goal
 use Rattle.tree_levels.proofs.lay_out.Goals.{After-shared_slice_known-1}
 
@@ -23,7 +23,6 @@ loop-i-init c =
     let a = c.args in
     let several = c.requires.several.0 in
     let room = c.requires.several.1 in (
-      omega (arith, several.some),
       omega arith,
       omega arith,
       record {
@@ -64,7 +63,7 @@ collect-end-requires c =
     record {
       right_profile = c.requires.right_profile;
       first_le_last = (range.order, range.within, few);
-      from_bound = (omega arith, l.invariant.3.for_addresses_lem);
+      from_bound = (omega arith, l.invariant.2.for_addresses_lem);
     }
 
 pub loop-i-preserved : goal.loop-i-preserved
@@ -77,15 +76,14 @@ loop-i-preserved c =
     let file = a.s.now in
     let few =
     few-heads L file a.domains a.count l.i (l.i + 1) leg.result.first leg.result.last c.requires.right_profile.passed c.requires.several.0 (add-one l.i) (omega arith) range in (
-      omega arith,
       omega (arith, c.collect-end.ensures.value),
       omega (arith, few-hops (goal.at.loop-i-preserved c).After-shared_slice_known-1, range.within, c.tallied-examined.ensures),
-      room-more L file l.addresses l.starts l.firsts l.lasts l.end _ _ l.i (l.i + 1 + 1) _ _ leg.result.first leg.result.last
-          (heads_of L file leg.result.first leg.result.last) _ c.collect-end.result l.invariant.3 leg.ensures (omega arith) c.collect-end.ensures.addresses_after,
+      room-more L file l.addresses l.starts l.firsts l.lasts l.end _ _ l.i (l.i + 2) _ _ leg.result.first leg.result.last
+          (heads_of L file leg.result.first leg.result.last) _ c.collect-end.result l.invariant.2 leg.ensures (omega arith) c.collect-end.ensures.addresses_after,
       λ S covers.
           next-filled S L file a.domains a.count _ _ c.requires.several.0 covers l.addresses l.starts l.firsts l.lasts l.end l.examined l.i (l.i + 1)
-          (l.i + 1 + 1) _ _ leg.result.first leg.result.last _ c.collect-end.result c.tallied-examined.result (l.invariant.4 S covers) l.invariant.3
-          (omega arith) (add-one l.i) (add-one (l.i + 1)) (omega arith) leg.ensures c.collect-end.ensures.value c.collect-end.ensures.addresses_after
+          (l.i + 2) _ _ leg.result.first leg.result.last _ c.collect-end.result c.tallied-examined.result (l.invariant.3 S covers) l.invariant.2
+          (omega arith) (add-one l.i) (omega arith) (omega arith) leg.ensures c.collect-end.ensures.value c.collect-end.ensures.addresses_after
           c.tallied-examined.ensures,
     )
 
@@ -103,7 +101,7 @@ tallied-examined-requires-2 c =
 
 pub put_destination-requires : goal.put_destination-requires
 put_destination-requires c =
-    let room = c.loop-i.invariant.3 in
+    let room = c.loop-i.invariant.2 in
     (omega arith, omega arith, room.for_addresses_lem, room.for_starts)
 
 pub returns : goal.returns
@@ -115,7 +113,9 @@ returns c =
     λ S covers.
     let from_first : Covers S (layout_of a.layout) a.s.now a.domains a.count (get_or (set a.addresses.now 0 a.source.0) 0 0) a.destination.0 =
     rw (get_or-set_same a.addresses.now 0 a.source.0 0 (omega (arith, c.requires.several.1.for_addresses_lem))) covers in
+    let last : l.i ≡ a.count - 1 = omega (arith, c.requires.several.0.some) in
+    let filled = subst (λ (n : ℕ). Filled S (layout_of a.layout) a.s.now l.addresses l.starts l.firsts l.lasts l.end l.examined n) last (l.invariant.3 S from_first) in
     rw (put.0, put.1)
     (last-filled S (layout_of a.layout) a.s.now a.domains a.count _ _ c.requires.several.0 covers l.addresses l.starts l.firsts l.lasts l.end l.examined
-    l.i (l.i + 1 + 1) _ _ leg.result.first leg.result.last c.tallied-examined-2.result (l.invariant.4 S from_first) l.invariant.3 c.requires.right_profile.passed (omega arith) (omega arith) (omega arith)
+    (a.count - 1) (a.count + 1) _ _ leg.result.first leg.result.last c.tallied-examined-2.result filled l.invariant.2 c.requires.right_profile.passed (omega arith) (omega arith) (omega arith)
     leg.ensures c.tallied-examined-2.ensures)

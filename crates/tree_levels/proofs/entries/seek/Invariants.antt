@@ -1,10 +1,7 @@
--- `tree_levels::entries::seek` meets its contract. The loop's invariant: the cells passed are below the node. The measure is how many cells are left.
-use Prim.Native.Nat.{ℕ, ◌-◌, ◌≤◌, ◌<◌}
+-- `tree_levels::entries::seek` meets its contract. The loop's invariant: the cells passed are below the node.
+use Prim.Native.Nat.{ℕ, ◌≤◌, ◌<◌}
 use lib.ListN.{get_or}
 use Rattle.tree_levels.proofs.entries.seek.Given as goal
 
 abbrev pub invariant-loop-at : goal.invariant-loop-at
-invariant-loop-at l = (l.from ≤ l.at) × (l.at ≤ l.end) × ((k : ℕ) → l.from ≤ k → k < l.at → get_or l.addresses k 0 < l.node.0)
-
-abbrev pub decreases-loop-at : goal.decreases-loop-at
-decreases-loop-at l = l.end - l.at
+invariant-loop-at l = (k : ℕ) → l.from ≤ k → k < l.at → get_or l.addresses k 0 < l.node.0
