@@ -1,50 +1,14 @@
--- Whether an entry is allowed, test by test; and what a part of the next place's numbers keeps while a step writes before it. By the cases of the tests.
-use mathlib.Core.Path.{◌≡◌, refl, sym, ap, subst, ◌∙◌}
-use mathlib.Core.Bool.{Bool, true, false, not, ◌&&◌}
+-- What a part of the next place's numbers keeps while a step writes before it. By the laws of `take` and `drop`.
+use mathlib.Core.Path.{◌≡◌, sym, ap, subst, ◌∙◌}
 use mathlib.Core.List.{List, [], ◌∷◌}
-use mathlib.Core.Option.{some}
 use Prim.Native.Nat.{ℕ, zero, suc, ◌+◌, ◌-◌, ◌≤◌}
 use native.Mathlib.Nat.{sub-zero}
 use native.Mathlib.Omega.{arith}
 use lib.ListN.{length, take, drop}
 use lib.Seq.{slice, paste, drop-paste, drop-drop, length-paste, take-nil, drop-nil}
-use Rattle.model.specs.Subobject.{Subobject}
-use Rattle.model.specs.Exclusion.{excluded_node}
-use Rattle.model.specs.Path.{keeps_pin}
-use Rattle.model.specs.WrittenList.{pin_if}
-use Rattle.laws.proofs.Tests.{and_none, and_all}
 use Rattle.tree_reaches.specs.Reaches.{beside, Small, NextPlace}
-use Rattle.tree_step.specs.Step.{allowed_by}
 
-pub pin_some : (m n : ℕ) → (m ≡ 0 → ⊥) → pin_if m n ≡ some n
-pin_some zero n h = absurd (h refl)
-pin_some (suc m) n h = refl
-
-module _ (exclusions : List Subobject) (excluded : Bool) (pinned pin a : ℕ) where
-  -- the domain is excluded
-  pub domain_excluded : excluded ≡ true → false ≡ allowed_by exclusions excluded pinned pin a
-  domain_excluded t =
-      and_none (not (excluded_node exclusions a))
-      ∙ sym (ap (λ (b : Bool). not (excluded_node exclusions a) && (not b && keeps_pin (pin_if pinned pin) a)) t)
-
-  -- the entry constraint is not kept
-  pub pin_broken : excluded ≡ false → keeps_pin (pin_if pinned pin) a ≡ false → false ≡ allowed_by exclusions excluded pinned pin a
-  pin_broken o f =
-      and_none (not (excluded_node exclusions a))
-      ∙ sym
-      (ap (λ (b : Bool). not (excluded_node exclusions a) && (not b && keeps_pin (pin_if pinned pin) a)) o
-      ∙ ap (λ (b : Bool). not (excluded_node exclusions a) && b) f)
-
-  -- what is left is the node itself
-  pub node-decides : excluded ≡ false → keeps_pin (pin_if pinned pin) a ≡ true → not (excluded_node exclusions a) ≡ allowed_by exclusions excluded pinned pin a
-  node-decides o t =
-      and_all (not (excluded_node exclusions a))
-      ∙ sym
-      (ap (λ (b : Bool). not (excluded_node exclusions a) && (not b && keeps_pin (pin_if pinned pin) a)) o
-      ∙ ap (λ (b : Bool). not (excluded_node exclusions a) && b) t)
-
--- ---- a part behind what is written stays
-
+-- a part behind what is written stays
 module _ {A : Type 0} where
   pub slice_by_drop : (f t : ℕ) (l : List A) → f ≤ t → slice f t l ≡ take (t - f) (drop f l)
   slice_by_drop zero t l h = ap (λ (n : ℕ). take n l) (sym (sub-zero t))

@@ -45,10 +45,7 @@ pub struct Leg {
 fn keeps_pin(pinned: u8, pin: NodeAddress, node: NodeAddress) -> bool
     ensures { result ≡ keeps_pin (pin_if pinned pin.0) node.0 }
 {
-    if pinned == 0 {
-        return true;
-    }
-    node.0 == pin.0
+    pinned == 0 || node == pin
 }
 
 // A node may be an entry of the leg's domain.
@@ -56,15 +53,9 @@ fn allowed_at(include: &[u8], exclude: &[u8], leg: Leg, node: NodeAddress) -> bo
     requires { (form_verdict Exclude exclude.now ≡ Pass) × Stretch include.now leg.exrs leg.named }
     ensures { result ≡ allowed_by (leg_exclusions (lists_of include.now exclude.now) leg) leg.excluded leg.pinned leg.pin.0 node.0 }
 {
-    if leg.excluded {
-        return false;
-    }
-    let pin = leg.pin;
-    if !keeps_pin(leg.pinned, pin, node) {
-        return false;
-    }
-    let round = leg.round;
-    !excludes_node_there(include, exclude, leg.exrs, leg.named, round, node)
+    !leg.excluded
+        && keeps_pin(leg.pinned, leg.pin, node)
+        && !excludes_node_there(include, exclude, leg.exrs, leg.named, leg.round, node)
 }
 
 // How one entry reaches the destination.
@@ -88,10 +79,7 @@ fn entry_reach(
     if !allowed_at(include, exclude, leg, node) {
         return UNREACHABLE;
     }
-    let from = leg.from;
-    let to = leg.to;
-    let hops = leg.hops;
-    let range = tail_range(s, layout, hops, from, to, node);
+    let range = tail_range(s, layout, leg.hops, leg.from, leg.to, node);
     best_from(
         s,
         layout,
@@ -122,15 +110,10 @@ pub fn fill_level(
     requires start_le_next { (leg.start ≤ leg.next) × NextPlace addresses.now reaches.old leg.next leg.end }
     ensures { reaches.new ≡ paste reaches.old leg.start (level_codes (layout_of layout) s.now (lists_of include.now exclude.now) leg asked addresses.now reaches.old) (leg.next - leg.start) }
 {
-    let start = leg.start;
-    let count = leg.next - start;
-    let mut j: usize = 0;
-    while j < count {
-        let node = NodeAddress(addresses[start + j]);
-        let r = entry_reach(
+    for j in leg.start..leg.next {
+        let node = NodeAddress(addresses[j]);
+        reaches[j] = entry_reach(
             s, layout, include, exclude, leg, asked, node, addresses, &*reaches,
         );
-        reaches[start + j] = r;
-        j += 1;
     }
 }

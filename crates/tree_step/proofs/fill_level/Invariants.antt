@@ -1,6 +1,6 @@
--- `tree_step::fill_level` meets its contract. The loop's invariant: the first j of the domain's entries are written, and nothing else. The measure is what is left.
+-- `tree_step::fill_level` meets its contract. The loop's invariant: the first j of the domain's entries are written, and nothing else.
 use mathlib.Core.Path.{◌≡◌}
-use Prim.Native.Nat.{◌-◌, ◌≤◌}
+use Prim.Native.Nat.{◌-◌}
 use lib.Seq.{paste}
 use Rattle.laws.specs.Lists.{lists_of}
 use Rattle.profile_records.specs.Layout.{layout_of}
@@ -8,7 +8,4 @@ use Rattle.tree_step.specs.Step.{level_codes}
 use Rattle.tree_step.proofs.fill_level.Given as goal
 
 abbrev pub invariant-loop-j : goal.invariant-loop-j
-invariant-loop-j l = (l.j ≤ l.count) × (l.reaches ≡ paste l.initial.reaches l.start (level_codes (layout_of l.layout) l.s (lists_of l.include l.exclude) l.leg l.asked l.addresses l.initial.reaches) l.j)
-
-abbrev pub decreases-loop-j : goal.decreases-loop-j
-decreases-loop-j l = l.count - l.j
+invariant-loop-j l = l.reaches ≡ paste l.initial.reaches l.leg.start (level_codes (layout_of l.layout) l.s (lists_of l.include l.exclude) l.leg l.asked l.addresses l.initial.reaches) (l.j - l.leg.start)
