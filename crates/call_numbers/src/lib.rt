@@ -6,20 +6,20 @@ ghost use Rattle.model.specs.Answers.{numbers_of_read, numbers_of_write, numbers
 ghost use Rattle.pcep_model.specs.Pcreq.{numbers_of_pcreq};
 ghost use Rattle.pcep_model.specs.Pcrep.{numbers_of_pcrep, mark as mark_of};
 
-use model::{ReadAnswer, TreeAnswer, WriteAnswer};
+use model::{BuiltTree, ReadCounts, Refusal};
 use path_answers::numbers::round_number;
-use pcep_model::{PcrepAnswer, PcreqAnswer};
+use pcep_model::{PcrepFields, PcreqFields};
 
 // place, how many domains, how many bytes of EXRS
-pub fn tell_read(answer: ReadAnswer, numbers: &mut [u32; 3]) -> u32
+pub fn tell_read(answer: Result<ReadCounts, Refusal>, numbers: &mut [u32; 3]) -> u32
     ensures { (result ≡ (numbers_of_read answer).answer) × (numbers.new ≡ (numbers_of_read answer).others) }
 {
     match answer {
-        ReadAnswer::Read { count, exrs } => {
-            *numbers = [0, count, exrs];
+        Ok(read) => {
+            *numbers = [0, read.count, read.exrs];
             0
         }
-        ReadAnswer::Refused(r) => {
+        Err(r) => {
             *numbers = [r.place, 0, 0];
             r.number
         }
@@ -27,15 +27,15 @@ pub fn tell_read(answer: ReadAnswer, numbers: &mut [u32; 3]) -> u32
 }
 
 // place, how many bytes
-pub fn tell_write(answer: WriteAnswer, numbers: &mut [u32; 2]) -> u32
+pub fn tell_write(answer: Result<u32, Refusal>, numbers: &mut [u32; 2]) -> u32
     ensures { (result ≡ (numbers_of_write answer).answer) × (numbers.new ≡ (numbers_of_write answer).others) }
 {
     match answer {
-        WriteAnswer::Written { length } => {
+        Ok(length) => {
             *numbers = [0, length];
             0
         }
-        WriteAnswer::Refused(r) => {
+        Err(r) => {
             *numbers = [r.place, 0];
             r.number
         }
@@ -43,19 +43,15 @@ pub fn tell_write(answer: WriteAnswer, numbers: &mut [u32; 2]) -> u32
 }
 
 // place, how many entries, tally, round
-pub fn tell_tree(answer: TreeAnswer, numbers: &mut [u32; 4]) -> u32
+pub fn tell_tree(answer: Result<BuiltTree, Refusal>, numbers: &mut [u32; 4]) -> u32
     ensures { (result ≡ (numbers_of_tree answer).answer) × (numbers.new ≡ (numbers_of_tree answer).others) }
 {
     match answer {
-        TreeAnswer::Built {
-            entries,
-            tally,
-            round,
-        } => {
-            *numbers = [0, entries, tally, round_number(round)];
+        Ok(tree) => {
+            *numbers = [0, tree.entries, tree.tally, round_number(tree.round)];
             0
         }
-        TreeAnswer::Refused(r) => {
+        Err(r) => {
             *numbers = [r.place, 0, 0, 0];
             r.number
         }
@@ -63,11 +59,11 @@ pub fn tell_tree(answer: TreeAnswer, numbers: &mut [u32; 4]) -> u32
 }
 
 // place, request-ID, RP's flags, source, destination, bandwidth, how many METRICs, then where both lists start and how long they are
-pub fn tell_pcreq(answer: PcreqAnswer, numbers: &mut [u32; 11]) -> u32
+pub fn tell_pcreq(answer: Result<PcreqFields, Refusal>, numbers: &mut [u32; 11]) -> u32
     ensures { (result ≡ (numbers_of_pcreq answer).answer) × (numbers.new ≡ (numbers_of_pcreq answer).others) }
 {
     match answer {
-        PcreqAnswer::Read(f) => {
+        Ok(f) => {
             let include = f.include;
             let exclude = f.exclude;
             *numbers = [
@@ -85,7 +81,7 @@ pub fn tell_pcreq(answer: PcreqAnswer, numbers: &mut [u32; 11]) -> u32
             ];
             0
         }
-        PcreqAnswer::Refused(r) => {
+        Err(r) => {
             *numbers = [r.place, 0, 0, 0, 0, 0, 0, 0, 0, 0, 0];
             r.number
         }
@@ -96,25 +92,22 @@ pub fn tell_pcreq(answer: PcreqAnswer, numbers: &mut [u32; 11]) -> u32
 fn mark(b: bool) -> u32
     ensures { result ≡ mark_of b }
 {
-    if b {
-        return 1;
-    }
-    0
+    b as u32
 }
 
 // place, request-ID, RP's flags, found, nature of issue, C, how many addresses and METRICs
-pub fn tell_pcrep(answer: PcrepAnswer, numbers: &mut [u32; 8]) -> u32
+pub fn tell_pcrep(answer: Result<PcrepFields, Refusal>, numbers: &mut [u32; 8]) -> u32
     ensures { (result ≡ (numbers_of_pcrep answer).answer) × (numbers.new ≡ (numbers_of_pcrep answer).others) }
 {
     match answer {
-        PcrepAnswer::Read(f) => {
+        Ok(f) => {
             let found = mark(f.found);
             let c = mark(f.c);
             let nature = f.nature as u32;
             *numbers = [0, f.id, f.flags, found, nature, c, f.addresses, f.metrics];
             0
         }
-        PcrepAnswer::Refused(r) => {
+        Err(r) => {
             *numbers = [r.place, 0, 0, 0, 0, 0, 0, 0];
             r.number
         }
