@@ -1,14 +1,15 @@
 // Checks 14, 15 and 16 of each domain record.
-ghost use Rattle.std.specs.Prelude.{◌≡◌, ◌+◌, ◌≤◌, ◌<◌, length, drop};
+ghost use Rattle.std.specs.Prelude.{◌≡◌, ◌+◌, ◌≤◌, ◌<◌, ◌&&◌, length, drop};
 ghost use Rattle.model.specs.Bytes.{all_zero};
 ghost use Rattle.model.specs.Verdict.{in_turn};
 ghost use Rattle.model.specs.Profile.{domain_count, domain_start, area_length_fits, domain_malformed, domain_misordered, domain_verdict};
 
-use model::{Reason, Verdict};
+use model::{Domain, Reason, Verdict};
 use profile_records::domain::domain_at;
 use profile_records::header::{class_of, domain_count};
 use profile_reserved::{as_misplaced, as_nobodys};
 use refusal::refuse_if;
+use wire::all_zero;
 use wire::order::record_below;
 
 // Whether an area of this kind may have this length.
@@ -21,19 +22,12 @@ fn area_length_fits(kind: u8, length: u8) -> bool
     none | ospf | is_is
 }
 
-// Whether every byte of an area from `used` on is zero.
-fn zero_after(area: &[u8; 13], used: usize) -> bool
-    requires { length area.now ≡ 13 }
-    ensures { result ≡ all_zero (drop used area.now) }
+// The area is of a length that its kind may have, and its bytes past that are zero.
+fn area_fits(d: Domain) -> bool
+    requires { length d.area ≡ 13 }
+    ensures { result ≡ area_length_fits d.kind d.length && all_zero (drop d.length d.area) }
 {
-    let mut j = used;
-    while j < 13 {
-        if area[j] != 0 {
-            return false;
-        }
-        j += 1;
-    }
-    true
+    area_length_fits(d.kind, d.length) && all_zero(&d.area[d.length as usize..])
 }
 
 // Kind unknown, length not the kind's, an area byte after the length or the last byte not zero, an AS that is nobody's.
@@ -42,13 +36,10 @@ fn domain_malformed(s: &[u8], i: usize) -> bool
     ensures { result ≡ domain_malformed s.now i }
 {
     let d = domain_at(s, i);
-    let area = d.area;
-    let used = d.length as usize;
+    let fits = area_fits(d);
     let last = s[12 + 20 * i + 19];
-    let fits = area_length_fits(d.kind, d.length);
-    let padded = zero_after(&area, used);
     let nobodys = as_nobodys(d.asn);
-    !fits | !padded | (last != 0) | nobodys
+    !fits | (last != 0) | nobodys
 }
 
 // Not above the record before it, compared as bytes; or the record before it is of kind 0 and of the same AS.

@@ -55,14 +55,12 @@ pub fn run_end(s: &[u8], layout: Layout, first: usize, hops: usize) -> usize
     let pair = u32_at(s, at);
     let tail = u32_at(s, at + 4);
     let mut before = u32_at(s, at + 8);
-    let mut i = first + 1;
-    while i < hops {
+    for i in first + 1..hops {
         at += layout.hop_size;
         if !goes_on(s, layout, at, class, pair, tail, before) {
             return i;
         }
         before = u32_at(s, at + 8);
-        i += 1;
     }
-    i
+    hops
 }

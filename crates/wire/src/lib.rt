@@ -1,7 +1,8 @@
 // Big-endian numbers read from a byte slice at a place, and written to one; parts of a slice compared by them.
 #![tactic(auto)]
 
-ghost use Rattle.std.specs.Prelude.{◌≡◌, ◌++◌, ◌+◌, ◌≤◌, ◌<◌, length, take, drop};
+ghost use Rattle.std.specs.Prelude.{◌≡◌, ℕ, ◌++◌, ◌+◌, ◌≤◌, ◌<◌, length, take, drop, eqb};
+ghost use Rattle.std.specs.List.{list_all};
 ghost use Rattle.model.specs.Bytes.{number, bytes_of};
 
 pub mod order;
@@ -11,6 +12,13 @@ pub fn wide(x: u8) -> usize
     ensures { (result ≡ x) × (result < 256) }
 {
     x as usize
+}
+
+// Whether every byte is zero.
+pub fn all_zero(bytes: &[u8]) -> bool
+    ensures { result ≡ list_all (λ (x : ℕ). eqb x 0) bytes.now }
+{
+    bytes.iter().all(|byte| *byte == 0)
 }
 
 // The two bytes from `at` on.

@@ -1,9 +1,11 @@
 -- `profile_record_checks::run::run_end` meets its contract. The loop's invariant: every record up to the one before `i` passed, and the code holds the start and the first words of that one
--- (`Running`). The measure is how many records are left.
+-- (`Running`).
 use Rattle.profile_record_checks.proofs.Runs.{fields-inside, running_start, next_inside, running_next, running_end}
 use Rattle.profile_records.proofs.Fields.{hop-within}
 use Rattle.profile_records.specs.Layout.{layout_of}
 use Prim.Native.Nat.{ℕ}
+use mathlib.Core.Path.{◌≡◌, subst}
+use Rattle.profile_record_checks.specs.Run.{RunTo}
 use native.Mathlib.Omega.{arith}
 use Rattle.profile_record_checks.proofs.run.run_end.Goals as goal
 
@@ -68,4 +70,8 @@ loop-i-preserved c =
     (c.goes_on.ensures c.if-not-goes_on.false) c.u32_at-before-in-loop-i.ensures
 
 pub returns : goal.returns
-returns c = running_end (λ (k : ℕ). (c.type_inv.s k).fits) c.loop-i.invariant
+returns c =
+    let a = c.args in
+    let l = c.loop-i in
+    let all : l.i ≡ a.hops = omega arith in
+    subst (RunTo (layout_of a.layout) a.s.now a.first a.hops) all (running_end (λ (k : ℕ). (c.type_inv.s k).fits) l.invariant)
