@@ -19,3 +19,4 @@ pub mod GivenRequest
 pub mod PcreqIsRequest
 pub mod QuietMessages
 pub mod Demands
+pub mod Firsts

@@ -1,3 +1,4 @@
 pub mod Checks
 pub mod Walked
 pub mod Frames
+pub mod Placed

@@ -1,5 +1,5 @@
 -- What is answered and left in the buffers is the outcome of `read_pcrep`: on a refusal nothing is written, else addresses and METRICs are.
-use Rattle.std.specs.Prelude.{Err}
+use Rattle.std.specs.Prelude.{Ok, Err}
 use Prim.Native.Nat.{ℕ}
 use mathlib.Core.Path.{◌≡◌, sym, ap, ◌∙◌}
 use mathlib.Core.List.{List, map}
@@ -9,7 +9,6 @@ use Rattle.model.specs.declared.Refusal.{Refusal}
 use Rattle.model.specs.Lists.{over}
 use Rattle.laws.proofs.Lists.{over_nothing}
 use Rattle.pcep_model.specs.declared.PcrepFields.{PcrepFields}
-use Rattle.pcep_model.specs.declared.PcrepAnswer.TheVariants.{Read, Refused}
 use Rattle.pcep_model.specs.Metrics.{metrics}
 use Rattle.pcep_model.specs.Pcrep.{Reading, addresses_in, route_in, pcrep_fields, pcrep_verdict, answer_pcrep, read_pcrep, numbers_of_pcrep}
 use Rattle.buffers.specs.Capacity.{least3}
@@ -24,7 +23,7 @@ module _ (s addresses kinds flags values : List ℕ) where
   unfolding read_pcrep
   outcome v e = ap (λ (x : Verdict). answer_pcrep x s) e
 
-  pub read-refused : (x : Refusal) → judged ≡ Err x → ReadBy s addresses kinds flags values (Refused x) addresses kinds flags values
+  pub read-refused : (x : Refusal) → judged ≡ Err x → ReadBy s addresses kinds flags values (Err x) addresses kinds flags values
   read-refused x e =
       let o = outcome (Err x) e in
       record {
@@ -41,11 +40,11 @@ module _ (s addresses kinds flags values : List ℕ) where
       → kinds' ≡ over (map kind_of (metrics s)) kinds
       → flags' ≡ over (map flags_of (metrics s)) flags
       → values' ≡ over (map value_of (metrics s)) values
-      → ReadBy s addresses kinds flags values (Read f) addresses' kinds' flags' values'
+      → ReadBy s addresses kinds flags values (Ok f) addresses' kinds' flags' values'
   read_done f addresses' kinds' flags' values' e are a k g v =
       let o = outcome Pass e in
       record {
-        numbers = ap (λ (x : PcrepFields). numbers_of_pcrep (Read x)) are ∙ sym (ap (λ (p : Reading). p.numbers) o);
+        numbers = ap (λ (x : PcrepFields). numbers_of_pcrep (Ok x)) are ∙ sym (ap (λ (p : Reading). p.numbers) o);
         in_addresses = a ∙ sym (ap (λ (p : Reading). over p.addresses addresses) o);
         in_kinds = k ∙ sym (ap (λ (p : Reading). over (map kind_of p.metrics) kinds) o);
         in_flags = g ∙ sym (ap (λ (p : Reading). over (map flags_of p.metrics) flags) o);

@@ -1,13 +1,14 @@
 -- The checks of a PCRep put together: a refusal of the frame, of a METRIC, or of what is behind them; and what is known where all pass.
-use Rattle.std.specs.Prelude.{Err}
+use Rattle.std.specs.Prelude.{Option, None, Some, Err}
+use Rattle.std.specs.Option.{is_some}
 use Prim.Native.Nat.{ℕ, ◌+◌, ◌≤◌}
 use native.Mathlib.Omega.{arith}
-use mathlib.Core.Path.{◌≡◌, refl, sym, ◌∙◌}
-use mathlib.Core.Bool.{true}
+use mathlib.Core.Path.{◌≡◌, refl, sym, ap, ◌∙◌}
+use mathlib.Core.Bool.{Bool, true, false, not, cond}
 use mathlib.Core.List.{List}
 use lib.ListN.{length, drop, length-take, length-drop}
-use lib.Dec.{ltb}
-use borrow.Author.Tests.{ltb-false, eq-eqb, ne_eqb}
+use lib.Dec.{eqb, ltb}
+use borrow.Author.Tests.{eqb-true, ltb-false, eq-eqb, not-false}
 use Rattle.model.specs.declared.Refusal.{Refusal}
 use Rattle.model.specs.Verdict.{Pass, refuse_if, ◌and_then◌}
 use Rattle.model.specs.Calls.{room_verdict}
@@ -19,8 +20,9 @@ use Rattle.pcep_model.specs.Objects.{message_verdict}
 use Rattle.pcep_model.specs.Metrics.{metrics, wrong_metric}
 use Rattle.pcep_model.specs.Pcreq.{list_in}
 use Rattle.pcep_model.specs.Pcrep.{ero_verdict, addresses_in, route_in, pcrep_fields, pcrep_verdict}
+use Rattle.pcep_laws.specs.Firsts.{placed}
 use Rattle.pcep_message.specs.declared.objects.Objects.{Objects}
-use Rattle.pcep_message.specs.Framed.{FrameIs}
+use Rattle.pcep_message.specs.Framed.{FramePassed}
 use Rattle.pcep_metrics.specs.Along.{Passed}
 use Rattle.pcep_reply_reader.specs.CheckedPcrep.{rest_verdict, Framed, PassedPcrep}
 
@@ -34,15 +36,27 @@ rest_form body count address_room metric_room e =
     ((and_then_pass (ero_verdict body and_then room_verdict (length (addresses_in body)) address_room) (room_verdict count metric_room)).0 e).0
     ).0
 
+some_by : (n : ℕ) (none : Bool) → is_some (cond none None (Some n)) ≡ not none
+some_by n true = refl
+some_by n false = refl
+
+some-is : (o : Option ℕ) (n : ℕ) → o ≡ placed n → is_some o ≡ not (eqb n 0)
+some-is o n e = ap is_some e ∙ some_by n (eqb n 0)
+
 module _ (s : List ℕ) (address_room metric_room : ℕ) where
   pub by_frame : (x : Refusal) → message_verdict Pcrep s ≡ Err x → pcrep_verdict s address_room metric_room ≡ Err x
   unfolding pcrep_verdict
   by_frame x e = rw e refl
 
   module _ (frame : message_verdict Pcrep s ≡ Pass) where
-    pub by_metric : (wrong_metric s ≡ 0 → ⊥) → pcrep_verdict s address_room metric_room ≡ refuse_if true 21 1
+    -- a METRIC out of range
+    pub by_metric : (wrong : Option ℕ) → wrong ≡ placed (wrong_metric s) → (x : Refusal) → refuse_if (is_some wrong) 21 1 ≡ Err x → pcrep_verdict s address_room metric_room ≡ Err x
     unfolding pcrep_verdict
-    by_metric some = rw (frame, ne_eqb (wrong_metric s) 0 some) refl
+    by_metric wrong is x e = rw (frame, sym (some-is wrong (wrong_metric s) is), e) refl
+
+    pub none-wrong : (wrong : Option ℕ) → wrong ≡ placed (wrong_metric s) → refuse_if (is_some wrong) 21 1 ≡ Pass → wrong_metric s ≡ 0
+    none-wrong wrong is e =
+        eqb-true (wrong_metric s) 0 (not-false _ (sym (some-is wrong (wrong_metric s) is) ∙ (refuse_if_pass (is_some wrong) 21 1).0 e))
 
     module _ (none : wrong_metric s ≡ 0) (body : List ℕ) (is : body ≡ route_in s) (count : ℕ) (counted : count ≡ length (metrics s)) where
       pub by_rest : rest_verdict body count address_room metric_room ≡ pcrep_verdict s address_room metric_room
@@ -71,23 +85,19 @@ module _ (s : List ℕ) (address_room metric_room : ℕ) where
       }
 
 -- a PCRep whose frame passes
-module _ (s : List ℕ) (r : Objects) (f : FrameIs Pcrep s r) (pass : r.verdict ≡ Pass) where
-  pub right_frame : message_verdict Pcrep s ≡ Pass
-  right_frame = sym f.verdict ∙ pass
-
+module _ (s : List ℕ) (m : Objects) (f : FramePassed Pcrep s m) where
   pub passed : Passed s
-  passed = record { kind = Pcrep; right = f.objects pass; long = f.long pass; short = f.short pass }
+  passed = record { kind = Pcrep; right = f.objects; long = f.long; short = f.short }
 
   pub framed
       : (addresses count : ℕ) → addresses ≡ length (addresses_in (route_in s)) → addresses ≤ 65535 → count ≡ length (metrics s) → count ≤ 65535
-      → Framed s r.firsts addresses count
+      → Framed s m addresses count
   framed addresses count are few counted most =
       record {
-        verdict = right_frame;
-        right = f.objects pass;
-        short = f.short pass;
-        full = f.firsts-long;
-        firsts_are = f.firsts pass;
+        verdict = f.verdict;
+        right = f.objects;
+        short = f.short;
+        firsts_are = f.firsts;
         addresses_are = are;
         few = few;
         counted = counted;

@@ -3,12 +3,13 @@
 
 ghost use Rattle.pcep_reply_reader.specs.Reading.{ReadBy};
 
-use crate::fields::{CheckedPcrep, check};
+use crate::fields::check;
 use buffers::lesser;
+use model::Refusal;
 use pcep_ero::put_addresses;
 use pcep_message::parts::list_in;
 use pcep_metrics::put_metrics;
-use pcep_model::PcrepAnswer;
+use pcep_model::PcrepFields;
 
 pub mod fields;
 
@@ -19,18 +20,13 @@ pub fn read_pcrep(
     kinds: &mut [u8],
     flags: &mut [u8],
     values: &mut [u32],
-) -> PcrepAnswer
+) -> Result<PcrepFields, Refusal>
     ensures { ReadBy message.now addresses.old kinds.old flags.old values.old result addresses.new kinds.new flags.new values.new }
 {
     let room = lesser(kinds.len(), lesser(flags.len(), values.len()));
-    let checked = check(message, addresses.len(), room);
-    match checked {
-        CheckedPcrep::Refused(r) => PcrepAnswer::Refused(r),
-        CheckedPcrep::Passed { fields, route } => {
-            let count = fields.metrics as usize;
-            put_addresses(list_in(message, route), addresses);
-            put_metrics(message, count, kinds, flags, values);
-            PcrepAnswer::Read(fields)
-        }
-    }
+    let checked = check(message, addresses.len(), room)?;
+    let count = checked.fields.metrics as usize;
+    put_addresses(list_in(message, checked.route), addresses);
+    put_metrics(message, count, kinds, flags, values);
+    Ok(checked.fields)
 }
