@@ -1,38 +1,17 @@
 -- The checks of `read_include` before the meaning of the list, one after the other. By putting each verdict in its place.
-use Rattle.std.specs.Prelude.{Err}
-use mathlib.Core.Path.{◌≡◌, refl, ap, ◌∙◌}
-use mathlib.Core.Bool.{true, false}
+use mathlib.Core.Path.{◌≡◌}
 use mathlib.Core.List.{List}
 use Prim.Native.Nat.{ℕ, ◌≤◌, ◌<◌}
 use lib.ListN.{length}
 use lib.Dec.{leb, ltb}
-use Rattle.model.specs.declared.Refusal.{Refusal}
 use Rattle.model.specs.declared.ListKind.TheVariants.{Include}
-use Rattle.model.specs.Verdict.{Verdict, Pass, ◌and_then◌}
+use Rattle.model.specs.Verdict.{Pass}
 use Rattle.model.specs.Profile.{domain_count, verdict_on}
 use Rattle.model.specs.Subobject.{form_verdict}
 use Rattle.model.specs.Request.{ingress_verdict, size_verdict}
 use borrow.Author.Tests.{leb-false, ltb-false}
 use Rattle.laws.proofs.Turns.{and_then_pass, refuse_if_pass}
-use Rattle.refusal.specs.Refused.{refusal}
 use Rattle.list_reader.specs.ReadInclude.{read_verdict}
-
-module _ (P : List ℕ) (i : ℕ) (L : List ℕ) where
-  pub profile-refused : (r : Refusal) → verdict_on P ≡ Err r → read_verdict P i L ≡ Err r
-  profile-refused r e = ap (λ (v : Verdict). v and_then ingress_verdict P i and_then size_verdict L 0 and_then form_verdict Include L) e
-
-  module _ (e : verdict_on P ≡ Pass) where
-    past : read_verdict P i L ≡ (ingress_verdict P i and_then size_verdict L 0 and_then form_verdict Include L)
-    past = ap (λ (v : Verdict). v and_then ingress_verdict P i and_then size_verdict L 0 and_then form_verdict Include L) e
-
-    pub ingress-refused : leb (domain_count P) i ≡ true → read_verdict P i L ≡ refusal 20 0
-    ingress-refused t = past ∙ (rw t refl)
-
-    pub size-refused : leb (domain_count P) i ≡ false → ltb 1024 (length L) ≡ true → read_verdict P i L ≡ refusal 22 0
-    size-refused f t = past ∙ (rw (f, t) refl)
-
-    pub form_left_lem : leb (domain_count P) i ≡ false → ltb 1024 (length L) ≡ false → read_verdict P i L ≡ form_verdict Include L
-    form_left_lem f g = past ∙ (rw (f, g) refl)
 
 -- all checks passed: what each says
 pub record Passed (P : List ℕ) (i : ℕ) (L : List ℕ) : Type 0 where

@@ -1,19 +1,17 @@
 -- What `read_include` has to answer and leave, by how the reading ends: refused, too little capacity, or a sequence in the buffers.
-use Rattle.std.specs.Prelude.{Err}
+use Rattle.std.specs.Prelude.{Result, Ok, Err}
 use mathlib.Core.Path.{◌≡◌, refl, sym, ap, subst, ◌∙◌}
 use mathlib.Core.List.{List, map}
-use Prim.Native.Nat.{ℕ, ◌≤◌, ◌<◌}
+use Prim.Native.Nat.{ℕ}
 use lib.ListN.{length}
-use borrow.Author.Tests.{lt-ltb, le-ltb}
-use Rattle.model.specs.Verdict.{Verdict, Pass}
+use Rattle.model.specs.Verdict.{Verdict, Pass, ◌and_then◌}
 use Rattle.model.specs.declared.Refusal.{Refusal}
-use Rattle.model.specs.declared.ReadAnswer.{ReadAnswer}
-use Rattle.model.specs.declared.ReadAnswer.TheVariants.{Read, Refused}
+use Rattle.model.specs.declared.ReadCounts.{ReadCounts}
 use Rattle.model.specs.Lists.{each, over}
 use Rattle.model.specs.Sequence as M
 use Rattle.model.specs.Request.{reading_input, provided}
-use Rattle.model.specs.Answers.{refused3, done3}
-use Rattle.model.specs.Calls.{Outcome, nothing, all_exrs, read_into, reading_of, read_include, pin_mark, pin_node}
+use Rattle.model.specs.Answers.{refused3, done3, numbers_of_read}
+use Rattle.model.specs.Calls.{Outcome, nothing, all_exrs, room_verdict, answer_read, read_into, reading_of, read_include, pin_mark, pin_node}
 use Rattle.laws.proofs.Lists.{over_nothing}
 use Rattle.list_reader.specs.ReadInclude.{read_verdict, SequenceIn, ExrsIn, ReadIn}
 
@@ -35,25 +33,28 @@ module _ (P : List ℕ) (i : ℕ) (L : List ℕ) where
 -- ---- whether there is capacity for a sequence
 
 module _ (seq : List M.Stop) (room bytes : ℕ) where
-  pub few-places : room < length seq → read_into (M.good seq) room bytes ≡ nothing (refused3 (record { number = 34; place = 0 }))
-  few-places h = rw (lt-ltb room (length seq) h) refl
+  pub few-places : (x : Refusal) → room_verdict (length seq) room ≡ Err x → read_into (M.good seq) room bytes ≡ nothing (refused3 x)
+  few-places x e = ap (λ (v : Verdict). answer_read (v and_then room_verdict (length (all_exrs seq)) bytes) seq) e
 
-  module _ (h : length seq ≤ room) where
-    pub few_bytes : bytes < length (all_exrs seq) → read_into (M.good seq) room bytes ≡ nothing (refused3 (record { number = 34; place = 0 }))
-    few_bytes k = rw (le-ltb room (length seq) h, lt-ltb bytes (length (all_exrs seq)) k) refl
+  module _ (h : room_verdict (length seq) room ≡ Pass) where
+    both : (v : Verdict) → room_verdict (length (all_exrs seq)) bytes ≡ v → read_into (M.good seq) room bytes ≡ answer_read v seq
+    both v e = ap (λ (v : Verdict). answer_read (v and_then room_verdict (length (all_exrs seq)) bytes) seq) h ∙ ap (λ (v : Verdict). answer_read v seq) e
 
-    pub outcome-read : length (all_exrs seq) ≤ bytes → read_into (M.good seq) room bytes ≡ record { numbers = done3 (length seq) (length (all_exrs seq)); written = seq }
-    outcome-read k = rw (le-ltb room (length seq) h, le-ltb bytes (length (all_exrs seq)) k) refl
+    pub few_bytes : (x : Refusal) → room_verdict (length (all_exrs seq)) bytes ≡ Err x → read_into (M.good seq) room bytes ≡ nothing (refused3 x)
+    few_bytes x e = both (Err x) e
+
+    pub outcome-read : room_verdict (length (all_exrs seq)) bytes ≡ Pass → read_into (M.good seq) room bytes ≡ record { numbers = done3 (length seq) (length (all_exrs seq)); written = seq }
+    outcome-read e = both Pass e
 
 -- ---- what that leaves
 
 module _ (D M' N C X : List ℕ) where
-  pub refused-is : (o : Outcome M.Stop) (r : Refusal) → o ≡ nothing (refused3 r) → ReadIn o D M' N C X (Refused r) D M' N C X
+  pub refused-is : (o : Outcome M.Stop) {r : Result ReadCounts Refusal} (x : Refusal) → r ≡ Err x → o ≡ nothing (refused3 x) → ReadIn o D M' N C X r D M' N C X
   unfolding all_exrs each
-  refused-is o r e =
+  refused-is o {r} x is e =
       let kept : (f : M.Stop → ℕ) (old : List ℕ) → old ≡ over (map f o.written) old = λ f old. sym (ap (λ (x : Outcome M.Stop). over (map f x.written) old) e ∙ over_nothing old) in
       record {
-        numbers = sym (ap (λ (x : Outcome M.Stop). x.numbers) e);
+        numbers = ap numbers_of_read is ∙ sym (ap (λ (x : Outcome M.Stop). x.numbers) e);
         in_domains = kept (λ (p : M.Stop). p.domain) D;
         in_marks = kept (λ (p : M.Stop). pin_mark p.pin) M';
         in_nodes = kept (λ (p : M.Stop). pin_node p.pin) N;
@@ -62,7 +63,7 @@ module _ (D M' N C X : List ℕ) where
       }
 
   module _ {D' M'' N' C' X' : List ℕ} where
-    pub same_outcome : {o x : Outcome M.Stop} {r : ReadAnswer} → o ≡ x → ReadIn x D M' N C X r D' M'' N' C' X' → ReadIn o D M' N C X r D' M'' N' C' X'
+    pub same_outcome : {o x : Outcome M.Stop} {r : Result ReadCounts Refusal} → o ≡ x → ReadIn x D M' N C X r D' M'' N' C' X' → ReadIn o D M' N C X r D' M'' N' C' X'
     same_outcome {r = r} e = subst (λ (x : Outcome M.Stop). ReadIn x D M' N C X r D' M'' N' C' X') (sym e)
 
     pub read_is
@@ -72,7 +73,7 @@ module _ (D M' N C X : List ℕ) where
         → m ≡ length (all_exrs seq)
         → SequenceIn seq D M' N D' M'' N'
         → ExrsIn seq C X C' X'
-        → ReadIn o D M' N C X (Read n m) D' M'' N' C' X'
+        → ReadIn o D M' N C X (Ok (record { count = n; exrs = m })) D' M'' N' C' X'
     read_is seq n m o e p q stops carried =
         same_outcome e
         (record {

@@ -1,6 +1,10 @@
 -- A state's sequence copied to the lent buffers, part by part: one turn writes one part of the stop at hand, and its EXRS behind those before. Over what the part is.
 use mathlib.Core.Path.{◌≡◌, sym, ap, subst, ◌∙◌}
+use mathlib.Core.Bool.{Bool}
 use mathlib.Core.List.{List, ◌++◌, map}
+use mir.Val.{bool_byte}
+use Rattle.std.specs.Prelude.{Option, None, Some, is_some, unwrap_or}
+use Rattle.model.specs.declared.NodeAddress.{NodeAddress}
 use Prim.Native.Nat.{ℕ, ◌+◌, ◌≤◌, ◌<◌}
 use native.Mathlib.Nat.{zero-add}
 use native.Mathlib.Numerals.{add-one}
@@ -12,7 +16,7 @@ use Rattle.model.specs.Sequence.{Stop}
 use Rattle.model.specs.Calls.{all_exrs, pin_mark, pin_node}
 use Rattle.model.specs.Path.{no_stop}
 use Rattle.laws.specs.Exrs.{exrs_in, Stretch}
-use Rattle.laws.specs.Stops.{stretch_start}
+use Rattle.laws.specs.Stops.{pin_as, named_in, stretch_start}
 use Rattle.laws.proofs.Stops.{stop_at_lem}
 use Rattle.laws.proofs.ExrsSizes.{exrs_before, before_none, before_next, before-few}
 use Rattle.list_include.specs.declared.state.State.{State}
@@ -20,7 +24,7 @@ use Rattle.list_include.specs.Reading.{state_stop, state_stops, Placed}
 use Rattle.list_include.proofs.States.{length-stops}
 use Rattle.buffers.specs.Placed.{Put}
 use Rattle.buffers.proofs.Places.{nothing_put}
-use Rattle.buffers.proofs.Copies.{Copied, copied_long, copied_more}
+use Rattle.buffers.proofs.Copies.{Copied, copied_more}
 
 -- what goes into the buffers of each stop
 abbrev pub domain : Stop → ℕ
@@ -37,7 +41,7 @@ size p = length p.exrs
 
 module _ (list : List ℕ) (st : State) where
   stop-there : (i : ℕ) → i < st.count → get_or (state_stops list st) i no_stop ≡ state_stop list st i
-  stop-there = stop_at_lem list st.domains st.pinned st.pins st.named st.count
+  stop-there = stop_at_lem list st.stops st.count
 
   -- ---- a number of each stop
 
@@ -52,9 +56,6 @@ module _ (list : List ℕ) (st : State) where
     part_at i h z = sym (ap (get_or part i) z ∙ get_or-map f (state_stops list st) i no_stop ∙ ap f (stop-there i h))
 
     module _ (old now : List ℕ) (i : ℕ) (c : Copied part old now i) (room : st.count ≤ length old) where
-      pub part-long : i ≤ st.count → length now ≡ length old
-      part-long h = copied_long part old now i c (omega (arith, part_length)) (omega arith)
-
       -- the part of stop i goes to place i
       pub part-more : (x : ℕ) → i < st.count → 0 ≡ f no_stop → x ≡ f (state_stop list st i) → Copied part old (set now i x) (i + 1)
       part-more x h z e =
@@ -73,13 +74,13 @@ module _ (list : List ℕ) (st : State) where
   all_passed i e = ap all_exrs (take_all i (state_stops list st) (omega (arith, length-stops list st)))
 
   -- where the next ones start to stand
-  pub start_next : (i : ℕ) → get_or st.named i 0 ≡ stretch_start st.named (i + 1)
-  start_next i = ap (stretch_start st.named) (sym (add-one i))
+  pub start_next : (i : ℕ) → named_in st.stops i ≡ stretch_start st.stops (i + 1)
+  start_next i = ap (stretch_start st.stops) (sym (add-one i))
 
   -- those of stop i stand from an offset up to the subobject that named its domain
-  module _ (i : ℕ) (h : i < st.count) (from : ℕ) (e : from ≡ stretch_start st.named i) where
+  module _ (i : ℕ) (h : i < st.count) (from : ℕ) (e : from ≡ stretch_start st.stops i) where
     abbrev to : ℕ
-    to = get_or st.named i 0
+    to = named_in st.stops i
 
     pub stretch-there : Placed list st → Stretch list from to
     stretch-there placed = subst (λ (n : ℕ). Stretch list n to) (sym e) (placed i h)
@@ -104,3 +105,12 @@ module _ (list : List ℕ) (st : State) where
 pub put_over : {bytes old new : List ℕ} {after : ℕ} → Put 0 bytes old new after → new ≡ over bytes old
 unfolding over
 put_over {bytes} {old} p = p.holds ∙ ap (λ (n : ℕ). bytes ++ drop n old) (zero-add (length bytes))
+
+-- the mark and the node that are written of an entry constraint
+pub marked : (pin : Option NodeAddress) (some : Bool) → some ≡ is_some pin → bool_byte some ≡ pin_mark (pin_as pin)
+marked None some e = ap bool_byte e
+marked (Some node) some e = ap bool_byte e
+
+pub noded : (pin : Option NodeAddress) (node : NodeAddress) → node ≡ unwrap_or pin (record { 0 = 0 }) → node.0 ≡ pin_node (pin_as pin)
+noded None node e = ap (λ (n : NodeAddress). n.0) e
+noded (Some other) node e = ap (λ (n : NodeAddress). n.0) e

@@ -1,7 +1,8 @@
 -- What `read_include` answers and leaves in the lent buffers, over `Calls` of `model`.
-use Rattle.std.specs.Prelude.{◌≡◌, List, map, ℕ, ◌-◌, ◌≤◌, length}
+use Rattle.std.specs.Prelude.{◌≡◌, List, map, ℕ, ◌-◌, ◌≤◌, length, Result}
 use Rattle.model.specs.declared.ListKind.TheVariants.{Include}
-use Rattle.model.specs.declared.ReadAnswer.{ReadAnswer}
+use Rattle.model.specs.declared.ReadCounts.{ReadCounts}
+use Rattle.model.specs.declared.Refusal.{Refusal}
 use Rattle.model.specs.Lists.{over}
 use Rattle.model.specs.Verdict.{Verdict, ◌and_then◌}
 use Rattle.model.specs.Profile.{verdict_on}
@@ -39,7 +40,7 @@ pub record ExrsIn (sequence : List Stop) (counts exrs counts' exrs' : List ℕ) 
   pub in_exrs : exrs' ≡ over (all_exrs sequence) exrs
 
 -- the numbers are those of an outcome, and the buffers have the parts of what it writes
-pub record ReadIn (o : Outcome Stop) (domains marks nodes counts exrs : List ℕ) (r : ReadAnswer) (domains' marks' nodes' counts' exrs' : List ℕ) : Type 0 where
+pub record ReadIn (o : Outcome Stop) (domains marks nodes counts exrs : List ℕ) (r : Result ReadCounts Refusal) (domains' marks' nodes' counts' exrs' : List ℕ) : Type 0 where
   pub numbers : numbers_of_read r ≡ o.numbers
   pub in_domains : domains' ≡ over (map (λ (p : Stop). p.domain) o.written) domains
   pub in_marks : marks' ≡ over (map (λ (p : Stop). pin_mark p.pin) o.written) marks
@@ -48,6 +49,6 @@ pub record ReadIn (o : Outcome Stop) (domains marks nodes counts exrs : List ℕ
   pub in_exrs : exrs' ≡ over (all_exrs o.written) exrs
 
 -- that of the call
-abbrev pub ReadIs : List ℕ → ℕ → List ℕ → List ℕ → List ℕ → List ℕ → List ℕ → List ℕ → ReadAnswer → List ℕ → List ℕ → List ℕ → List ℕ → List ℕ → Type 0
+abbrev pub ReadIs : List ℕ → ℕ → List ℕ → List ℕ → List ℕ → List ℕ → List ℕ → List ℕ → Result ReadCounts Refusal → List ℕ → List ℕ → List ℕ → List ℕ → List ℕ → Type 0
 ReadIs profile ingress list domains marks nodes counts exrs =
     ReadIn (read_include profile ingress list (least4 domains marks nodes counts) (length exrs)) domains marks nodes counts exrs

@@ -9,6 +9,7 @@ ghost use Rattle.list_reader.specs.ReadInclude.{ExrsAt, ExrsIn};
 
 use buffers::put_bytes;
 use list_include::state::State;
+use list_subobject::types::is_exrs;
 use list_subobject::walk::next_after;
 
 // How many bytes of the subobject at an offset are those of an EXRS: all up to the next one, or none where its type is another.
@@ -16,7 +17,7 @@ fn bytes_at(list: &[u8], at: usize, next: usize) -> usize
     requires { (at < next) × (next ≤ length list.now) × (next ≡ after_subobject list.now at) }
     ensures { ExrsAt list.now at next result }
 {
-    if list[at] % 128 != 33 {
+    if !is_exrs(list[at]) {
         return 0;
     }
     next - at
@@ -58,15 +59,12 @@ pub fn all_size(list: &[u8], st: State) -> usize
     requires { SoundState st × Placed list.now st × (length list.now ≤ 1024) }
     ensures { (result ≡ length (all_exrs (state_stops list.now st))) × (result ≤ 1024) }
 {
-    let n = st.count;
     let mut size: usize = 0;
     let mut from: usize = 0;
-    let mut i: usize = 0;
-    while i < n {
-        let to = st.named[i] as usize;
+    for i in 0..st.count {
+        let to = st.stops[i].named as usize;
         size += exrs_size(list, from, to);
         from = to;
-        i += 1;
     }
     size
 }
@@ -77,16 +75,13 @@ pub fn copy_exrs(list: &[u8], st: State, counts: &mut [u32], exrs: &mut [u8])
     requires count_in_bounds { (st.count ≤ length counts.old) × (length (all_exrs (state_stops list.now st)) ≤ length exrs.old) }
     ensures { ExrsIn (state_stops list.now st) counts.old exrs.old counts.new exrs.new }
 {
-    let n = st.count;
     let mut at: usize = 0;
     let mut from: usize = 0;
-    let mut i: usize = 0;
-    while i < n {
-        let to = st.named[i] as usize;
+    for i in 0..st.count {
+        let to = st.stops[i].named as usize;
         let next = put_exrs(list, from, to, exrs, at);
         counts[i] = (next - at) as u32;
         at = next;
         from = to;
-        i += 1;
     }
 }

@@ -11,22 +11,21 @@ use buffers::lesser;
 use list_form::form;
 use list_include::read_list;
 use list_include::state::State;
-use model::{DomainIndex, ListKind, ReadAnswer, Refusal, Verdict};
+use model::{DomainIndex, ListKind, NodeAddress, ReadCounts, Reason, Refusal, Verdict};
 use profile_check::verdict_on;
 use profile_records::header::domain_count;
+use refusal::refuse_if;
 
 // The domains of a sequence and their entry constraints at the start of the lent buffers.
 fn copy_sequence(st: State, domains: &mut [u16], pinned: &mut [u8], pins: &mut [u32])
     requires { SoundState st × (st.count ≤ least3 domains.old pinned.old pins.old) }
     ensures { (list : List ℕ) → SequenceIn (state_stops list st) domains.old pinned.old pins.old domains.new pinned.new pins.new }
 {
-    let n = st.count;
-    let mut i: usize = 0;
-    while i < n {
-        domains[i] = st.domains[i].0;
-        pinned[i] = st.pinned[i];
-        pins[i] = st.pins[i].0;
-        i += 1;
+    for i in 0..st.count {
+        let stop = st.stops[i];
+        domains[i] = stop.domain.0;
+        pinned[i] = stop.pin.is_some() as u8;
+        pins[i] = stop.pin.unwrap_or(NodeAddress(0)).0;
     }
 }
 
@@ -34,22 +33,13 @@ fn copy_sequence(st: State, domains: &mut [u16], pinned: &mut [u8], pins: &mut [
 fn read_verdict(profile: &[u8], ingress: DomainIndex, list: &[u8]) -> Verdict
     ensures { result ≡ read_verdict profile.now ingress.0 list.now }
 {
-    let v = verdict_on(profile);
-    if let Verdict::Refuse(r) = v {
-        return Verdict::Refuse(r);
-    }
-    if domain_count(profile) <= ingress.0 {
-        return Verdict::Refuse(Refusal {
-            number: 20,
-            place: 0,
-        });
-    }
-    if 1024 < list.len() {
-        return Verdict::Refuse(Refusal {
-            number: 22,
-            place: 0,
-        });
-    }
+    verdict_on(profile)?;
+    refuse_if(
+        domain_count(profile) <= ingress.0,
+        Reason::UnknownIngress,
+        0,
+    )?;
+    refuse_if(1024 < list.len(), Reason::LongList, 0)?;
     form(ListKind::Include, list)
 }
 
@@ -62,7 +52,7 @@ fn put_sequence(
     pins: &mut [u32],
     counts: &mut [u32],
     exrs: &mut [u8],
-) -> ReadAnswer
+) -> Result<ReadCounts, Refusal>
     requires { SoundState st × Placed list.now st × (length list.now ≤ 1024) }
     ensures { ReadIn (read_into (good (state_stops list.now st)) (least4 domains.old pinned.old pins.old counts.old) (length exrs.old)) domains.old pinned.old pins.old counts.old exrs.old result domains.new pinned.new pins.new counts.new exrs.new }
 {
@@ -71,19 +61,15 @@ fn put_sequence(
         lesser(domains.len(), pinned.len()),
         lesser(pins.len(), counts.len()),
     );
+    refuse_if(room < n, Reason::LittleRoom, 0)?;
     let size = all_size(list, st);
-    if room < n || exrs.len() < size {
-        return ReadAnswer::Refused(Refusal {
-            number: 34,
-            place: 0,
-        });
-    }
+    refuse_if(exrs.len() < size, Reason::LittleRoom, 0)?;
     copy_sequence(st, domains, pinned, pins);
     copy_exrs(list, st, counts, exrs);
-    ReadAnswer::Read {
+    Ok(ReadCounts {
         count: n as u32,
         exrs: size as u32,
-    }
+    })
 }
 
 // The sequence of domains, entry constraints and EXRS that an include list asks for. On a refusal the lent buffers keep what they held.
@@ -96,18 +82,10 @@ pub fn read_include(
     pins: &mut [u32],
     counts: &mut [u32],
     exrs: &mut [u8],
-) -> ReadAnswer
+) -> Result<ReadCounts, Refusal>
     ensures { ReadIs profile.now ingress.0 list.now domains.old pinned.old pins.old counts.old exrs.old result domains.new pinned.new pins.new counts.new exrs.new }
 {
-    let v = read_verdict(profile, ingress, list);
-    if let Verdict::Refuse(r) = v {
-        return ReadAnswer::Refused(r);
-    }
-    let read = read_list(profile, ingress, list);
-    let verdict = read.verdict;
-    if let Verdict::Refuse(r) = verdict {
-        return ReadAnswer::Refused(r);
-    }
-    let st = read.state;
+    read_verdict(profile, ingress, list)?;
+    let st = read_list(profile, ingress, list)?;
     put_sequence(list, st, domains, pinned, pins, counts, exrs)
 }

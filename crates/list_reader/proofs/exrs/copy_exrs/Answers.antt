@@ -1,72 +1,43 @@
--- `list_reader::exrs::copy_exrs` meets its contract. The loop's invariant: the EXRS of the domains passed are put, and how many bytes each has. The measure is what is
--- left.
+-- `list_reader::exrs::copy_exrs` meets its contract. The loop's invariant: the EXRS of the domains passed are put, and how many bytes each has.
 use Prim.Native.Nat.{ℕ, ◌-◌}
 use mathlib.Core.Path.{◌≡◌, refl, sym, ap, subst, ◌∙◌}
 use mathlib.Core.List.{List}
 use native.Mathlib.Omega.{arith}
 use borrow.Author.Rules.{rules}
-use lib.ListN.{length, get_or}
+use lib.ListN.{length}
 use Rattle.model.specs.Lists.{over}
 use Rattle.laws.specs.Exrs.{exrs_in, Stretch}
+use Rattle.laws.specs.Stops.{named_in}
 use Rattle.laws.proofs.ExrsSizes.{exrs-few}
 use Rattle.buffers.specs.Placed.{Put}
 use Rattle.buffers.proofs.Places.{put_append}
 use Rattle.buffers.proofs.Copies.{copied_none}
-use Rattle.list_reader.proofs.SequenceCopies.{size, part, part-long, part-more, part-whole, all_passed, start_next, stretch-there, passed_next, size_fits, none_put, put_over}
+use Rattle.list_reader.proofs.SequenceCopies.{size, part, part-more, part-whole, all_passed, start_next, stretch-there, passed_next, size_fits, none_put, put_over}
 use Rattle.list_reader.proofs.exrs.copy_exrs.Goals as goal
-use Rattle.list_reader.proofs.exrs.copy_exrs.Goals.{At-loop-i, In-loop-i}
+use Rattle.list_reader.proofs.exrs.copy_exrs.Goals.{In-loop-i}
 
 pub loop-i-init : goal.loop-i-init
 loop-i-init c =
     let a = c.args in
-    (omega arith, refl, none_put a.list.now a.st a.exrs.now, refl, copied_none (part a.list.now a.st size) a.counts.now)
-
-pub offset_bounds-st-i : goal.offset_bounds-st-i
-offset_bounds-st-i c =
-    let most = c.requires.sound_state.0.most in
-    omega arith
-
-pub bounds-st-i : goal.bounds-st-i
-bounds-st-i c =
-    let most = c.requires.sound_state.0.most in
-    omega arith
+    (refl, none_put a.list.now a.st a.exrs.now, refl, copied_none (part a.list.now a.st size) a.counts.now)
 
 -- the stretch at hand
-there : (c : In-loop-i) → Stretch c.args.list.now c.loop-i.from (get_or c.args.st.named c.loop-i.i 0)
+there : (c : In-loop-i) → Stretch c.args.list.now c.loop-i.from (named_in c.args.st.stops c.loop-i.i)
 there c =
     let l = c.loop-i in
-    stretch-there c.args.list.now c.args.st l.i c.loop-i-test.true l.from l.invariant.1 c.requires.sound_state.1
+    stretch-there c.args.list.now c.args.st l.i c.loop-i-test.true l.from l.invariant.0 c.requires.sound_state.1
 
 pub put_exrs-next-requires : goal.put_exrs-next-requires
 put_exrs-next-requires c =
     let a = c.args in
     let l = c.loop-i in
-    (there (goal.at.put_exrs-next-requires c).In-loop-i, omega (arith, size_fits a.list.now a.st l.i c.loop-i-test.true l.from l.invariant.1, c.requires.count_in_bounds.1, l.invariant.2.next, l.invariant.3))
-
-pub overflow_sub-counts : goal.overflow_sub-counts
-overflow_sub-counts c = omega (arith, c.put_exrs-next.ensures.next)
+    (there (goal.at.put_exrs-next-requires c).In-loop-i, omega (arith, size_fits a.list.now a.st l.i c.loop-i-test.true l.from l.invariant.0, c.requires.count_in_bounds.1, l.invariant.1.next, l.invariant.2))
 
 -- a stretch has no more bytes of EXRS than the list has bytes
 pub overflow_cast-counts : goal.overflow_cast-counts
 overflow_cast-counts c =
     let s = there (goal.at.overflow_cast-counts c).In-loop-i in
     omega (arith, c.put_exrs-next.ensures.next, exrs-few c.args.list.now c.loop-i.from _ s, s.inside, c.requires.sound_state.2)
-
-pub offset_bounds-counts-i : goal.offset_bounds-counts-i
-offset_bounds-counts-i c =
-    let most = c.requires.sound_state.0.most in
-    omega arith
-
--- the buffer of counts keeps its length
-long : (c : At-loop-i) → length c.loop-i.counts ≡ length c.args.counts.now
-long c =
-    let a = c.args in
-    let l = c.loop-i in
-    part-long a.list.now a.st size a.counts.now l.counts l.i l.invariant.4 c.requires.count_in_bounds.0 l.invariant.0
-
-pub bounds-counts-i : goal.bounds-counts-i
-bounds-counts-i c =
-    omega (arith, long (goal.at.bounds-counts-i c).At-loop-i, c.loop-i-test.true, c.requires.count_in_bounds.0)
 
 pub loop-i-preserved : goal.loop-i-preserved
 loop-i-preserved c =
@@ -75,22 +46,21 @@ loop-i-preserved c =
     let l = c.loop-i in
     let s = a.list.now in
     let test = c.loop-i-test.true in
-    let to = get_or a.st.named l.i 0 in
-    let more = passed_next s a.st l.i test l.from l.invariant.1 in
+    let to = named_in a.st.stops l.i in
+    let more = passed_next s a.st l.i test l.from l.invariant.0 in
     let count : put.result - l.at ≡ length (exrs_in s l.from to) = omega (arith, put.ensures.next) in (
-      omega arith,
       start_next s a.st l.i,
-      subst (λ (b : List ℕ). Put 0 b a.exrs.now put.new.out put.result) (sym more) (put_append (omega arith) l.invariant.2 put.ensures),
+      subst (λ (b : List ℕ). Put 0 b a.exrs.now put.new.out put.result) (sym more) (put_append (omega arith) l.invariant.1 put.ensures),
       search rules,
-      part-more s a.st size a.counts.now l.counts l.i l.invariant.4 c.requires.count_in_bounds.0 _ test refl (count ∙ ap (λ (n : ℕ). length (exrs_in s n to)) l.invariant.1),
+      part-more s a.st size a.counts.now l.counts l.i l.invariant.3 c.requires.count_in_bounds.0 _ test refl (count ∙ ap (λ (n : ℕ). length (exrs_in s n to)) l.invariant.0),
     )
 
 pub returns : goal.returns
 returns c =
     let a = c.args in
     let l = c.loop-i in
-    let end : l.i ≡ a.st.count = omega (arith, c.loop-i-test.false, l.invariant.0) in
+    let end : l.i ≡ a.st.count = omega (arith, c.loop-i-test.false) in
     record {
-      in_counts = part-whole a.list.now a.st size a.counts.now l.counts l.i l.invariant.4 c.requires.count_in_bounds.0 end;
-      in_exrs = put_over l.invariant.2 ∙ ap (λ (b : List ℕ). over b a.exrs.now) (all_passed a.list.now a.st l.i end);
+      in_counts = part-whole a.list.now a.st size a.counts.now l.counts l.i l.invariant.3 c.requires.count_in_bounds.0 end;
+      in_exrs = put_over l.invariant.1 ∙ ap (λ (b : List ℕ). over b a.exrs.now) (all_passed a.list.now a.st l.i end);
     }
