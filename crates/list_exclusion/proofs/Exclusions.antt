@@ -14,6 +14,7 @@ use Rattle.model.specs.Exclusion.{counts, in_force, takes_domain, takes_node, ex
 use Rattle.laws.proofs.Picks.{any-keep}
 use Rattle.list_subobject.specs.declared.item.Item.{Item}
 use Rattle.list_subobject.specs.Items.{named_of, Readable, ItemAt}
+use Rattle.list_exclusion.specs.Tests.{some_passes}
 use Rattle.list_exclusion.proofs.OnePass.{some_there, readable_there, hit, miss}
 use Rattle.list_exclusion.proofs.OnePass as OnePass
 
@@ -50,6 +51,10 @@ module _ (q : Bool → M.Named → Bool) (s : List ℕ) where
         pub passed : q it.top (named_of s it.named) ≡ false → Undecided it.next
         passed f = subst Undecided (sym here.next) (miss test Exclude s (length s) 0 at u h (same ∙ f))
 
+-- a pass that looks for nothing
+abbrev pub never : Bool → M.Named → Bool
+never top n = false
+
 -- ---- the tests: an exclusion counts in the round, and takes the domain or the node away
 
 abbrev pub bars_domain : Round → Domain → Bool → M.Named → Bool
@@ -58,11 +63,11 @@ bars_domain x d top n = counts x top && takes_domain d n
 abbrev pub bars_node : Round → ℕ → Bool → M.Named → Bool
 bars_node x node top n = counts x top && takes_node node n
 
-pub domain_barred : (x : Round) (d : Domain) (s : List ℕ) → some_named (bars_domain x d) s ≡ excluded_domain (in_force x (M.subobjects s)) d
+pub domain_barred : (x : Round) (d : Domain) (s : List ℕ) → some_passes (bars_domain x d) (M.subobjects s) ≡ excluded_domain (in_force x (M.subobjects s)) d
 unfolding excluded_domain in_force M.subobjects
 domain_barred x d s = sym (any-keep (λ (o : M.Subobject). takes_domain d o.names) (λ (o : M.Subobject). counts x o.top) (M.subobjects s))
 
-pub node_barred : (x : Round) (node : ℕ) (s : List ℕ) → some_named (bars_node x node) s ≡ excluded_node (in_force x (M.subobjects s)) node
+pub node_barred : (x : Round) (node : ℕ) (s : List ℕ) → some_passes (bars_node x node) (M.subobjects s) ≡ excluded_node (in_force x (M.subobjects s)) node
 unfolding excluded_node in_force M.subobjects
 node_barred x node s = sym (any-keep (λ (o : M.Subobject). takes_node node o.names) (λ (o : M.Subobject). counts x o.top) (M.subobjects s))
 

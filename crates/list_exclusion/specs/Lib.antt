@@ -1,2 +1,3 @@
 pub mod Sought
+pub mod Tests
 pub mod Place
