@@ -1,6 +1,6 @@
 -- One pass over a whole exclude list of right form, as code makes it, for any test on X bits and names; and the tests that are made.
 use Prim.Native.Nat.{ℕ, ◌≤◌, ◌<◌}
-use mathlib.Core.Path.{◌≡◌, sym, ap₂, subst, ◌∙◌}
+use mathlib.Core.Path.{◌≡◌, refl, sym, ap₂, subst, ◌∙◌}
 use mathlib.Core.Bool.{Bool, true, false, ◌&&◌}
 use mathlib.Core.List.{List}
 use native.Mathlib.Omega.{arith}
@@ -10,7 +10,7 @@ use Rattle.model.specs.declared.ListKind.TheVariants.{Exclude}
 use Rattle.model.specs.declared.Round.{Round}
 use Rattle.model.specs.Verdict.{Pass}
 use Rattle.model.specs.Subobject as M
-use Rattle.model.specs.Exclusion.{counts, in_force, takes_domain, takes_node, excluded_domain, excluded_node}
+use Rattle.model.specs.Exclusion.{counts, in_force, some_desired, takes_domain, takes_node, excluded_domain, excluded_node}
 use Rattle.laws.proofs.Picks.{any-keep}
 use Rattle.list_subobject.specs.declared.item.Item.{Item}
 use Rattle.list_subobject.specs.Items.{named_of, Readable, ItemAt}
@@ -63,14 +63,18 @@ bars_domain x d top n = counts x top && takes_domain d n
 abbrev pub bars_node : Round → ℕ → Bool → M.Named → Bool
 bars_node x node top n = counts x top && takes_node node n
 
-pub domain_barred : (x : Round) (d : Domain) (s : List ℕ) → some_passes (bars_domain x d) (M.subobjects s) ≡ excluded_domain (in_force x (M.subobjects s)) d
-unfolding excluded_domain in_force M.subobjects
-domain_barred x d s = sym (any-keep (λ (o : M.Subobject). takes_domain d o.names) (λ (o : M.Subobject). counts x o.top) (M.subobjects s))
+pub domain_barred : (x : Round) (d : Domain) (xs : List M.Subobject) → some_passes (bars_domain x d) xs ≡ excluded_domain (in_force x xs) d
+unfolding excluded_domain in_force
+domain_barred x d xs = sym (any-keep (λ (o : M.Subobject). takes_domain d o.names) (λ (o : M.Subobject). counts x o.top) xs)
 
-pub node_barred : (x : Round) (node : ℕ) (s : List ℕ) → some_passes (bars_node x node) (M.subobjects s) ≡ excluded_node (in_force x (M.subobjects s)) node
-unfolding excluded_node in_force M.subobjects
-node_barred x node s = sym (any-keep (λ (o : M.Subobject). takes_node node o.names) (λ (o : M.Subobject). counts x o.top) (M.subobjects s))
+pub node_barred : (x : Round) (node : ℕ) (xs : List M.Subobject) → some_passes (bars_node x node) xs ≡ excluded_node (in_force x xs) node
+unfolding excluded_node in_force
+node_barred x node xs = sym (any-keep (λ (o : M.Subobject). takes_node node o.names) (λ (o : M.Subobject). counts x o.top) xs)
 
 -- an exclusion is only desired
 abbrev pub is_desired : Bool → M.Named → Bool
 is_desired top n = top
+
+pub desired_passes : (xs : List M.Subobject) → some_passes is_desired xs ≡ some_desired xs
+unfolding some_desired
+desired_passes xs = refl

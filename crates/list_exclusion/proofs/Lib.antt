@@ -1,4 +1,4 @@
 pub mod OnePass
 pub mod Exclusions
-pub mod Soughts
+pub mod Carried
 pub mod Places

@@ -1,7 +1,7 @@
 -- One pass over the subobjects of a list of right form, of either kind, from an offset up to an end, for one that passes a test: the subobject at hand decides, or
 -- what is left after it does.
 use Prim.Native.Nat.{ℕ, ◌≤◌, ◌<◌}
-use mathlib.Core.Path.{◌≡◌, refl, sym, ◌∙◌}
+use mathlib.Core.Path.{◌≡◌, refl, sym, subst, ◌∙◌}
 use mathlib.Core.Bool.{Bool, true, false}
 use mathlib.Core.List.{List}
 use lib.ListN.{length}
@@ -48,3 +48,6 @@ module _ (test : Subobject → Bool) (k : ListKind) (s : List ℕ) (end from : �
             right = right_next k s end at h u.right;
             decides = sym (any-more test k s end at h u.right f) ∙ u.decides;
           }
+
+      pub miss_to : (next : ℕ) → next ≡ after_subobject s at → test (subobject_at s at) ≡ false → Undecided next
+      miss_to next e f = subst Undecided (sym e) (miss f)

@@ -103,7 +103,10 @@ pub fn excludes_domain(list: &[u8], round: Round, d: Domain) -> bool
     requires { (form_verdict Exclude list.now ≡ Pass) × (d.length ≤ 13) }
     ensures { result ≡ excluded_domain (in_force round (subobjects list.now)) d }
 {
-    some_passes(list, |item| bars_domain(list, round, item.top, item.named, d))
+    some_passes(
+        list,
+        |item| bars_domain(list, round, item.top, item.named, d),
+    )
 }
 
 // The exclude list takes the node away in the round.

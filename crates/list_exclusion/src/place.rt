@@ -8,7 +8,7 @@ ghost use Rattle.laws.specs.Exrs.{Stretch};
 ghost use Rattle.laws.specs.Lists.{lists_of};
 ghost use Rattle.list_exclusion.specs.Place.{exclusions_there, all_there};
 
-use crate::exrs::{desired, exrs_have, taking_domain, taking_node};
+use crate::exrs::exrs_have;
 use crate::{excludes_domain, excludes_node, some_desired};
 use model::{Domain, NodeAddress, Round};
 
@@ -24,11 +24,13 @@ pub fn excludes_domain_there(
     requires { (form_verdict Exclude exclude.now ≡ Pass) × Stretch include.now from to × (d.length ≤ 13) }
     ensures { result ≡ excluded_domain (exclusions_there round (lists_of include.now exclude.now) from to) d }
 {
-    if excludes_domain(exclude, round, d) {
-        return true;
-    }
-    let sought = taking_domain(round, d);
-    exrs_have(include, from, to, sought)
+    excludes_domain(exclude, round, d)
+        || exrs_have(
+            include,
+            from,
+            to,
+            |inside| excludes_domain(inside, round, d),
+        )
 }
 
 // The node is taken away in the round.
@@ -43,11 +45,13 @@ pub fn excludes_node_there(
     requires { (form_verdict Exclude exclude.now ≡ Pass) × Stretch include.now from to }
     ensures { result ≡ excluded_node (exclusions_there round (lists_of include.now exclude.now) from to) node.0 }
 {
-    if excludes_node(exclude, round, node) {
-        return true;
-    }
-    let sought = taking_node(round, node);
-    exrs_have(include, from, to, sought)
+    excludes_node(exclude, round, node)
+        || exrs_have(
+            include,
+            from,
+            to,
+            |inside| excludes_node(inside, round, node),
+        )
 }
 
 // Some exclusion has X set, in the exclude list or in an EXRS of the stretch.
@@ -55,9 +59,5 @@ pub fn some_desired_there(include: &[u8], exclude: &[u8], from: usize, to: usize
     requires { (form_verdict Exclude exclude.now ≡ Pass) × Stretch include.now from to }
     ensures { result ≡ some_desired (all_there (lists_of include.now exclude.now) from to) }
 {
-    if some_desired(exclude) {
-        return true;
-    }
-    let sought = desired();
-    exrs_have(include, from, to, sought)
+    some_desired(exclude) || exrs_have(include, from, to, |inside| some_desired(inside))
 }

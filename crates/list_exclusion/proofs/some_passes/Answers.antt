@@ -22,6 +22,9 @@ back e P p = subst P e p
 forth : {s t : List ℕ} → t ≡ s → (P : List ℕ → Type 0) → P s → P t
 forth e P p = subst P (sym e) p
 
+moved : (t s : List ℕ) (at next : ℕ) → t ≡ s → next ≡ at + length_at t at → next ≡ at + length_at s at
+moved t s at next e n = n ∙ ap (λ (u : List ℕ). at + length_at u at) e
+
 -- past the subobject at hand
 next_left : (q : Test) (s : List ℕ) (at next : ℕ) (it : Item) → Undecided q s at → at < length s → ItemAt s at it → q it.top (named_of s it.named) ≡ false → next ≡ at + length_at s at → Undecided q s next
 next_left q s at next it u h is f e = subst (Undecided q s) (is.next ∙ sym e) (passed q s at u h it is f)
@@ -62,7 +65,7 @@ loop-walk-preserved g c =
     let e = c.moved_past-walk.ensures in
     let it = c.subobject_here.result in
     let here = back l.invariant.along (λ (t : List ℕ). ItemAt t l.walk.at it) c.subobject_here.ensures in
-    let to = e.1 ∙ ap (λ (t : List ℕ). l.walk.at + length_at t l.walk.at) l.invariant.along in
+    let to = moved l.walk.list.now s l.walk.at c.moved_past-walk.result.at l.invariant.along e.1 in
     record {
       along = ap (λ x. x.now) e.0 ∙ l.invariant.along;
       right = next_left never s l.walk.at c.moved_past-walk.result.at it l.invariant.right c.loop-walk-test.true here refl to;

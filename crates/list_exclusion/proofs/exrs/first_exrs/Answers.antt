@@ -3,7 +3,8 @@ use Prim.Native.Nat.{ℕ, ◌<◌}
 use mathlib.Core.Path.{◌≡◌, refl, sym, ap, subst, ◌∙◌}
 use mathlib.Core.List.{List, ◌++◌}
 use native.Mathlib.Omega.{arith}
-use borrow.Author.Tests.{ne_eqb}
+use mathlib.Core.Bool.{false}
+use lib.Dec.{eqb}
 use Rattle.model.specs.Verdict.{Pass}
 use Rattle.model.specs.declared.ListKind.TheVariants.{Include}
 use Rattle.model.specs.Subobject.{Subobject, type_at, subobject_verdict, after_subobject, inside_of}
@@ -22,11 +23,11 @@ module _ (s : List ℕ) (at to : ℕ) (left : Stretch s at to) (h : at < to) whe
   rest : Stretch s (after_subobject s at) to
   rest = record { order = (right_subobject Include s to at here).whole; inside = left.inside; right = right_next Include s to at h left.right }
 
-  same_left : (type_at s at ≡ 33 → ⊥) → carried_in s at to ≡ carried_in s (after_subobject s at) to
+  same_left : eqb (type_at s at) 33 ≡ false → carried_in s at to ≡ carried_in s (after_subobject s at) to
   same_left d =
       carried_join s at (after_subobject s at) to (stretch-alone s at to left.inside here) rest
       ∙ ap {B = List Subobject} (λ (l : List Subobject). l ++ carried_in s (after_subobject s at) to)
-      (carried-alone s at to left.inside here ∙ no_33 inside_of (λ a n. refl) (λ n. refl) (λ a. refl) s at (ne_eqb (type_at s at) 33 d))
+      (carried-alone s at to left.inside here ∙ no_33 inside_of (λ a n. refl) (λ n. refl) (λ a. refl) s at d)
 
 pub loop-at-init : goal.loop-at-init
 loop-at-init c = (c.requires, refl)
@@ -36,8 +37,8 @@ bounds-list-at c =
     let inside = c.loop-at.invariant.0.inside in
     omega (arith, c.loop-at-test.true)
 
-pub returns-then-list-at-eq33 : goal.returns-then-list-at-eq33
-returns-then-list-at-eq33 c = c.loop-at.invariant
+pub returns-then-is_exrs : goal.returns-then-is_exrs
+returns-then-is_exrs c = c.loop-at.invariant
 
 pub next_after-at-requires : goal.next_after-at-requires
 next_after-at-requires c =
@@ -60,7 +61,7 @@ loop-at-preserved c =
     let l = c.loop-at in
     let h = c.loop-at-test.true in
     subst (λ (n : ℕ). Stretch s n a.to × (carried_in s n a.to ≡ carried_in s a.from a.to)) (sym c.next_after-at.ensures)
-    (rest s l.at a.to l.invariant.0 h, sym (same_left s l.at a.to l.invariant.0 h c.if-list-at-eq33.false) ∙ l.invariant.1)
+    (rest s l.at a.to l.invariant.0 h, sym (same_left s l.at a.to l.invariant.0 h (sym c.is_exrs.ensures ∙ c.if-is_exrs.false)) ∙ l.invariant.1)
 
 pub returns : goal.returns
 returns c =

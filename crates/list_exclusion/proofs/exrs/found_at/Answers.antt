@@ -3,55 +3,59 @@ use Prim.Native.Nat.{ℕ, ◌+◌, ◌-◌}
 use mathlib.Core.Path.{◌≡◌, sym, ap, ◌∙◌}
 use mathlib.Core.List.{List}
 use native.Mathlib.Omega.{arith}
+use borrow.Author.Tests.{eqb-true}
 use lib.ListN.{length}
-use Rattle.model.specs.declared.ListKind.TheVariants.{Include}
+use Rattle.model.specs.Verdict.{Pass}
+use Rattle.model.specs.declared.ListKind.TheVariants.{Include, Exclude}
 use Rattle.model.specs.Bytes.{part}
-use Rattle.model.specs.Subobject.{length_at, subobjects}
+use Rattle.model.specs.Subobject.{type_at, length_at, subobjects, form_verdict, subobject_verdict}
 use Rattle.laws.proofs.Walk.{Right, right_subobject}
 use Rattle.laws.proofs.Exrs.{inside-right}
-use Rattle.list_exclusion.specs.Sought.{found_in}
-use Rattle.list_exclusion.proofs.Soughts.{no_exrs, an_exrs}
+use Rattle.list_exclusion.specs.Tests.{some_passes}
+use Rattle.list_exclusion.proofs.Carried.{no_exrs, an_exrs}
 use Rattle.list_exclusion.proofs.exrs.found_at.Goals as goal
-use Rattle.list_exclusion.proofs.exrs.found_at.Goals.{Start}
 
 -- the EXRS lies inside the list
-there : (c : Start) → Right Include c.args.list.now (length c.args.list.now) c.args.at
-there c = right_subobject Include c.args.list.now (length c.args.list.now) c.args.at c.requires.0
-
-pub bounds-list-at : goal.bounds-list-at
-bounds-list-at c = omega (arith, (there (goal.at.bounds-list-at c).Start).head)
-
-pub returns-then-list-at-ne33 : goal.returns-then-list-at-ne33
-returns-then-list-at-ne33 c =
-    let a = c.args in
-    sym (no_exrs a.sought a.list.now a.at c.if-list-at-ne33.true)
-
-pub overflow_add-at : goal.overflow_add-at
-overflow_add-at c = omega (arith, (there (goal.at.overflow_add-at c).Start).head)
-
-pub slice_bounds-found_in-count : goal.slice_bounds-found_in-count
-slice_bounds-found_in-count c = omega (arith, (there (goal.at.slice_bounds-found_in-count c).Start).long, c.requires.1)
-
-pub slice_bounds-found_in-start : goal.slice_bounds-found_in-start
-slice_bounds-found_in-start c = omega (arith, (there (goal.at.slice_bounds-found_in-start c).Start).long, c.requires.1)
-
-pub slice_bounds-found_in-end : goal.slice_bounds-found_in-end
-slice_bounds-found_in-end c = omega (arith, (there (goal.at.slice_bounds-found_in-end c).Start).whole, c.requires.1)
+there : (s : List ℕ) (at : ℕ) → subobject_verdict Include s (length s) at ≡ Pass → Right Include s (length s) at
+there s at e = right_subobject Include s (length s) at e
 
 -- the part that is lent
 lent : (s : List ℕ) (at next : ℕ) → next ≡ at + length_at s at → part s (at + 4) (next - (at + 4)) ≡ part s (at + 4) (length_at s at - 4)
 lent s at next e = let n : next - (at + 4) ≡ length_at s at - 4 = omega arith in ap (part s (at + 4)) n
 
-pub found_in-requires : goal.found_in-requires
-found_in-requires c =
-    let a = c.args in
-    let s = a.list.now in
-    (rw (lent s a.at a.next c.requires.1) (inside-right s (length s) a.at (omega arith) c.requires.0 c.if-list-at-ne33.false), c.requires.2)
+lent_right
+    : (s : List ℕ) (at next : ℕ)
+    → subobject_verdict Include s (length s) at ≡ Pass → next ≡ at + length_at s at → type_at s at ≡ 33
+    → form_verdict Exclude (part s (at + 4) (next - (at + 4))) ≡ Pass
+lent_right s at next e n t = rw (lent s at next n) (inside-right s (length s) at (omega arith) e t)
 
-pub returns : goal.returns
-returns c =
+pub bounds-list-at : goal.bounds-list-at
+bounds-list-at g c = omega (arith, (there c.args.list.now c.args.at c.requires.right.0).head)
+
+pub returns-else-is_exrs : goal.returns-else-is_exrs
+returns-else-is_exrs g c = let a = c.args in λ q h. c.if-is_exrs.false ∙ sym (no_exrs q a.list.now a.at (sym c.is_exrs.ensures ∙ c.if-is_exrs.false))
+
+pub slice_bounds-found-count : goal.slice_bounds-found-count
+slice_bounds-found-count g c = omega (arith, (there c.args.list.now c.args.at c.requires.right.0).long, c.requires.right.1)
+
+pub slice_bounds-found-start : goal.slice_bounds-found-start
+slice_bounds-found-start g c = omega (arith, (there c.args.list.now c.args.at c.requires.right.0).long, c.requires.right.1)
+
+pub slice_bounds-found-end : goal.slice_bounds-found-end
+slice_bounds-found-end g c = omega (arith, (there c.args.list.now c.args.at c.requires.right.0).whole, c.requires.right.1)
+
+pub found-requires : goal.found-requires
+found-requires g c =
+    let a = c.args in
+    c.requires.callable _
+    (lent_right a.list.now a.at a.next c.requires.right.0 c.requires.right.1 (eqb-true (type_at a.list.now a.at) 33 (sym c.is_exrs.ensures ∙ c.if-is_exrs.true)))
+
+pub returns-then-is_exrs : goal.returns-then-is_exrs
+returns-then-is_exrs g c =
     let a = c.args in
     let s = a.list.now in
-    c.found_in.ensures
-    ∙ ap (λ (l : List ℕ). found_in a.sought (subobjects l)) (lent s a.at a.next c.requires.1)
-    ∙ sym (an_exrs a.sought s a.at c.if-list-at-ne33.false)
+    let t = sym c.is_exrs.ensures ∙ c.if-is_exrs.true in
+    λ q h.
+    h _ c.found.result (lent_right s a.at a.next c.requires.right.0 c.requires.right.1 (eqb-true (type_at s a.at) 33 t)) c.found.ensures
+    ∙ ap (λ (l : List ℕ). some_passes q (subobjects l)) (lent s a.at a.next c.requires.right.1)
+    ∙ sym (an_exrs q s a.at t)
