@@ -11,7 +11,7 @@ use lib.ListN.{length, get_or, take, set, length-append, length-set}
 use lib.Seq.{take-suc-set, get_or-set_same, get_or-set_other}
 use Rattle.model.specs.Verdict.{Pass}
 use Rattle.model.specs.declared.Hop.{Hop}
-use Rattle.model.specs.declared.DomainIndex.{DomainIndex}
+use Rattle.model.specs.declared.NamedStop.{NamedStop}
 use Rattle.model.specs.Lists.{count_from, each, different}
 use Rattle.model.specs.Profile.{Layout, hops, entry_nodes, profile_verdict}
 use Rattle.model.specs.Request.{Search}
@@ -19,11 +19,12 @@ use Rattle.model.specs.Path.{leg_at}
 use Rattle.model.specs.Tree.{entries_at}
 use Rattle.laws.proofs.Accepted.{accepted}
 use Rattle.laws.proofs.EntryNodes.{entry_nodes-bound}
+use Rattle.laws.specs.Stops.{domain_in}
 use Rattle.profile_hop_range.specs.Ranges.{PairRange}
 use Rattle.tree_levels.specs.Entries.{placed, heads_of}
 use Rattle.tree_levels.specs.Levels.{nodes_at, nodes_up_to, start_of, Several, Covers, Room, Noted, LaidOut}
 use Rattle.tree_levels.proofs.Placing.{take-placed, length-placed}
-use Rattle.tree_levels.proofs.Legs.{no_index, neighbours-apart, count-is, leg-noted, last-noted, tally_up_to, tally_none, tally_next, tally_all, leg-tally}
+use Rattle.tree_levels.proofs.Legs.{neighbours-apart, count-is, leg-noted, last-noted, tally_up_to, tally_none, tally_next, tally_all, leg-tally}
 use Rattle.tree_levels.proofs.Nodes.{nodes_here, nodes-behind, nodes-few}
 use Rattle.tree_levels.proofs.Blocks.{each_next}
 
@@ -164,20 +165,20 @@ room-more L s a st f g end d e i k f' g' first last more new after room noted fi
 
 -- a leg to another domain brings at most 16 entries
 pub few-heads
-    : (L : Layout) (s : List ℕ) (domains : List DomainIndex) (count i n first last : ℕ)
+    : (L : Layout) (s : List ℕ) (stops : List NamedStop) (count i n first last : ℕ)
     → profile_verdict L s ≡ Pass
-    → Several domains count
+    → Several stops count
     → n ≡ suc i
     → n < count
-    → PairRange L s (get_or domains i no_index).0 (get_or domains n no_index).0 first last
+    → PairRange L s (domain_in stops i) (domain_in stops n) first last
     → length (heads_of L s first last) ≤ 16
-few-heads L s domains count i n first last passed several en h range =
-    subst (λ (l : List ℕ). length l ≤ 16) (heads_are L s (get_or domains i no_index).0 (get_or domains n no_index).0 first last range)
-    (entry_nodes-bound L s (accepted L s passed) (get_or domains i no_index).0 (get_or domains n no_index).0
-    (λ e. neighbours-apart domains count i several (omega arith) (e ∙ ap (λ (m : ℕ). (get_or domains m no_index).0) en)))
+few-heads L s stops count i n first last passed several en h range =
+    subst (λ (l : List ℕ). length l ≤ 16) (heads_are L s (domain_in stops i) (domain_in stops n) first last range)
+    (entry_nodes-bound L s (accepted L s passed) (domain_in stops i) (domain_in stops n)
+    (λ e. neighbours-apart stops count i several (omega arith) (e ∙ ap (λ (m : ℕ). (domain_in stops m)) en)))
 
-module _ (S : Search) (L : Layout) (s : List ℕ) (domains : List DomainIndex) (count source destination : ℕ)
-    (several : Several domains count) (covers : Covers S L s domains count source destination) where
+module _ (S : Search) (L : Layout) (s : List ℕ) (stops : List NamedStop) (count source destination : ℕ)
+    (several : Several stops count) (covers : Covers S L s stops count source destination) where
   -- leg i to the next domain, and the heads of its hop records
   pub next-filled
       : (a st f g : List ℕ) (end x i n k : ℕ) (f' g' : List ℕ) (first last : ℕ) (new : List ℕ) (after x' : ℕ)
@@ -187,15 +188,15 @@ module _ (S : Search) (L : Layout) (s : List ℕ) (domains : List DomainIndex) (
       → n ≡ suc i
       → k ≡ suc n
       → n < count
-      → Noted L s f g (get_or domains i no_index).0 (get_or domains n no_index).0 i f' g' first last
+      → Noted L s f g (domain_in stops i) (domain_in stops n) i f' g' first last
       → after ≡ end + length (heads_of L s first last)
       → new ≡ placed end (heads_of L s first last) a
       → x' ≡ x + (last - first)
       → Filled S L s new (set st k after) f' g' after x' n
   next-filled a st f g end x i n k f' g' first last new after x' filled room fits en ek h noted ends stored ex =
-      let long = count-is S L s domains count source destination several covers in
+      let long = count-is S L s stops count source destination several covers in
       let most = several.most in
-      let leg = leg-noted S L s domains count source destination several covers f g i n f' g' first last en h noted in
+      let leg = leg-noted S L s stops count source destination several covers f g i n f' g' first last en h noted in
       Filled-more S L s a st f g end x i n k f' g' first last (heads_of L s first last) new after x' filled room covers.hops_are (omega arith) (omega arith) en ek
       leg
       (nodes_here S (suc i) (omega arith) ∙ entries_next S L s i first last covers.hops_are leg.range)
@@ -212,18 +213,18 @@ module _ (S : Search) (L : Layout) (s : List ℕ) (domains : List DomainIndex) (
       → end < 242
       → k ≡ suc (suc i)
       → suc i ≡ count
-      → Noted L s f g (get_or domains i no_index).0 (get_or domains i no_index).0 i f' g' first last
+      → Noted L s f g (domain_in stops i) (domain_in stops i) i f' g' first last
       → x' ≡ x + (last - first)
       → LaidOut S L s (set a end destination) (set st k (end + 1)) f' g' x'
   last-filled a st f g end x i k f' g' first last x' filled room passed fits ek h noted ex =
-      let long = count-is S L s domains count source destination several covers in
+      let long = count-is S L s stops count source destination several covers in
       let most = several.most in
       let all : length S.sequence ≡ suc i = omega arith in
       laid_out S L s (set a end destination) (set st k (end + 1)) f' g' (end + 1) x' (omega arith)
-      (nodes-few S L s domains count source destination passed several covers)
+      (nodes-few S L s stops count source destination passed several covers)
       (Filled-more S L s a st f g end x i (length S.sequence) k f' g' first last (destination ∷ []) (set a end destination) (end + 1) x' filled room
       covers.hops_are (omega arith) (omega arith) all (ek ∙ ap suc (sym all))
-      (last-noted S L s domains count source destination several covers f g i f' g' first last h noted)
+      (last-noted S L s stops count source destination several covers f g i f' g' first last h noted)
       (ap (nodes_at S) (sym all) ∙ nodes-behind S ∙ ap {B = List ℕ} (λ (d : ℕ). d ∷ []) covers.destination-is)
       refl
       (rw add-one (take-suc-set a end destination (omega (arith, room.for_addresses_lem))))

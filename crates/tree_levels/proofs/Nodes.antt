@@ -10,7 +10,7 @@ use lib.Dec.{ltb}
 use lib.ListN.{length}
 use borrow.Author.Tests.{ltb-true, lt-ltb, le-ltb}
 use Rattle.model.specs.Verdict.{Pass}
-use Rattle.model.specs.declared.DomainIndex.{DomainIndex}
+use Rattle.model.specs.declared.NamedStop.{NamedStop}
 use Rattle.model.specs.declared.Hop.{Hop}
 use Rattle.model.specs.Profile.{Layout, entry_nodes, profile_verdict}
 use Rattle.model.specs.Request.{Search}
@@ -47,19 +47,19 @@ nodes-ascending S i = go (ltb i (length S.sequence)) i
 -- ---- at most 16
 
 pub nodes-few
-    : (S : Search) (L : Layout) (s : List ℕ) (domains : List DomainIndex) (count source destination : ℕ)
+    : (S : Search) (L : Layout) (s : List ℕ) (stops : List NamedStop) (count source destination : ℕ)
     → profile_verdict L s ≡ Pass
-    → Several domains count
-    → Covers S L s domains count source destination
+    → Several stops count
+    → Covers S L s stops count source destination
     → (i : ℕ) → length (nodes_at S i) ≤ 16
 unfolding nodes_at entries_at
-nodes-few S L s domains count source destination passed several covers i = go (ltb i (length S.sequence)) i refl
+nodes-few S L s stops count source destination passed several covers i = go (ltb i (length S.sequence)) i refl
   where
     go : (b : Bool) (i : ℕ) → ltb i (length S.sequence) ≡ b → length (nodes_if b S i) ≤ 16
     go true zero t = omega arith
     go true (suc i) t =
         subst (λ (hs : List Hop). length (entry_nodes (leg_at S i).from (leg_at S i).to hs) ≤ 16) (sym covers.hops_are)
         (entry_nodes-bound L s (accepted L s passed) (leg_at S i).from (leg_at S i).to
-        (leg-apart S L s domains count source destination several covers i
-        (omega (arith, ltb-true (suc i) (length S.sequence) t, count-is S L s domains count source destination several covers))))
+        (leg-apart S L s stops count source destination several covers i
+        (omega (arith, ltb-true (suc i) (length S.sequence) t, count-is S L s stops count source destination several covers))))
     go false i f = omega arith

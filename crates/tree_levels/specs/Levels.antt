@@ -1,6 +1,6 @@
 -- The entries of the tree laid out one place of the sequence after the other, and behind the last domain's the destination; with the hop records of each leg.
 use Rattle.std.specs.Prelude.{ℕ, suc, ◌≤◌, ◌<◌, ◌≡◌, Bool, true, false, List, [], ◌∷◌, map, length, get_or, take, set, ltb}
-use Rattle.model.specs.declared.DomainIndex.{DomainIndex}
+use Rattle.model.specs.declared.NamedStop.{NamedStop}
 use Rattle.model.specs.Lists.{all_different, count_from, each}
 use Rattle.model.specs.Profile.{Layout, hops}
 use Rattle.model.specs.Sequence.{domains_of}
@@ -26,20 +26,20 @@ abbrev pub start_of : Search → ℕ → ℕ
 start_of S i = length (nodes_up_to S i)
 
 -- the indexes of the first domains
-abbrev pub indexes_of : ℕ → List DomainIndex → List ℕ
-indexes_of count domains = map (λ (d : DomainIndex). d.0) (take count domains)
+abbrev pub indexes_of : ℕ → List NamedStop → List ℕ
+indexes_of count stops = map (λ (p : NamedStop). p.domain.0) (take count stops)
 
 -- 1 to 16 domains, none twice
-pub record Several (domains : List DomainIndex) (count : ℕ) : Type 0 where
+pub record Several (stops : List NamedStop) (count : ℕ) : Type 0 where
   pub some : 1 ≤ count
   pub most : count ≤ 16
-  pub cells : length domains ≡ 16
-  pub different : all_different (indexes_of count domains) ≡ true
+  pub cells : length stops ≡ 16
+  pub different : all_different (indexes_of count stops) ≡ true
 
 -- a search over the hops of this profile, these domains, from the source to the destination
-pub record Covers (S : Search) (L : Layout) (s : List ℕ) (domains : List DomainIndex) (count source destination : ℕ) : Type 0 where
+pub record Covers (S : Search) (L : Layout) (s : List ℕ) (stops : List NamedStop) (count source destination : ℕ) : Type 0 where
   pub hops_are : S.hops ≡ hops L s
-  pub domains_are : domains_of S.sequence ≡ indexes_of count domains
+  pub domains_are : domains_of S.sequence ≡ indexes_of count stops
   pub source_is : S.source ≡ source
   pub destination-is : S.destination ≡ destination
 

@@ -7,7 +7,7 @@ ghost use Rattle.profile_records.specs.Layout.{layout_of, RightProfile};
 ghost use Rattle.tree_levels.specs.Levels.{Several, Covers, Room, Noted, LaidOut};
 
 use crate::heads::collect;
-use model::{DomainIndex, NodeAddress};
+use model::{DomainIndex, NamedStop, NodeAddress};
 use profile_hop_range::{HopRange, pair_range};
 use profile_records::layout::Layout;
 
@@ -61,7 +61,7 @@ fn put_destination(
 pub fn lay_out(
     s: &[u8],
     layout: Layout,
-    domains: [DomainIndex; 16],
+    stops: &[NamedStop; 16],
     count: usize,
     source: NodeAddress,
     destination: NodeAddress,
@@ -71,8 +71,8 @@ pub fn lay_out(
     lasts: &mut [usize; 16],
 ) -> usize
     requires right_profile { RightProfile (layout_of layout) s.now }
-    requires several { Several domains count × Room addresses.old starts.old firsts.old lasts.old }
-    ensures { (S : Search) → Covers S (layout_of layout) s.now domains count source.0 destination.0 → LaidOut S (layout_of layout) s.now addresses.new starts.new firsts.new lasts.new result }
+    requires several { Several stops.now count × Room addresses.old starts.old firsts.old lasts.old }
+    ensures { (S : Search) → Covers S (layout_of layout) s.now stops.now count source.0 destination.0 → LaidOut S (layout_of layout) s.now addresses.new starts.new firsts.new lasts.new result }
 {
     addresses[0] = source.0;
     starts[0] = 0;
@@ -81,12 +81,28 @@ pub fn lay_out(
     let mut examined: usize = 0;
     let last = count - 1;
     for i in 0..last {
-        let leg = note_leg(s, layout, domains[i], domains[i + 1], i, firsts, lasts);
+        let leg = note_leg(
+            s,
+            layout,
+            stops[i].domain,
+            stops[i + 1].domain,
+            i,
+            firsts,
+            lasts,
+        );
         examined = tallied(examined, leg);
         end = collect(s, layout, leg.first, leg.last, addresses, end);
         starts[i + 2] = end;
     }
-    let leg = note_leg(s, layout, domains[last], domains[last], last, firsts, lasts);
+    let leg = note_leg(
+        s,
+        layout,
+        stops[last].domain,
+        stops[last].domain,
+        last,
+        firsts,
+        lasts,
+    );
     examined = tallied(examined, leg);
     put_destination(destination, count, end, addresses, starts);
     examined

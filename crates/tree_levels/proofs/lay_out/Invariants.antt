@@ -12,4 +12,4 @@ invariant-loop-i l =
     (l.end ≤ 1 + 16 * l.i)
     × (l.examined ≤ 65535 * l.i)
     × Room l.addresses l.starts l.firsts l.lasts
-    × ((S : Search) → Covers S (layout_of l.layout) l.s l.domains l.count (get_or l.initial.addresses 0 0) l.destination.0 → Filled S (layout_of l.layout) l.s l.addresses l.starts l.firsts l.lasts l.end l.examined l.i)
+    × ((S : Search) → Covers S (layout_of l.layout) l.s l.stops l.count (get_or l.initial.addresses 0 0) l.destination.0 → Filled S (layout_of l.layout) l.s l.addresses l.starts l.firsts l.lasts l.end l.examined l.i)
