@@ -1,6 +1,8 @@
 // The public types of the calculator. What is right is said in specs/, over these types.
 #![tactic(auto)]
 
+use std::fmt;
+
 // A domain's place among the profile's domain records, counted from 0.
 #[derive(Clone, Copy, Debug, PartialEq, Eq, PartialOrd, Ord)]
 pub struct DomainIndex(pub u16);
@@ -8,6 +10,14 @@ pub struct DomainIndex(pub u16);
 // A node's IPv4 address, as a number.
 #[derive(Clone, Copy, Debug, PartialEq, Eq, PartialOrd, Ord)]
 pub struct NodeAddress(pub u32);
+
+impl fmt::Display for NodeAddress {
+    // In dotted form.
+    fn fmt<W: fmt::Write>(&self, f: &mut fmt::Formatter<W>) -> fmt::Result {
+        let [a, b, c, d] = self.0.to_be_bytes();
+        write!(f, "{a}.{b}.{c}.{d}")
+    }
+}
 
 // A domain record: its autonomous system number, and its area's kind (0 none, 1 OSPF, 2 IS-IS), length and bytes.
 #[derive(Clone, Copy)]
