@@ -8,7 +8,7 @@ ghost use Rattle.model.specs.declared.ListKind.TheVariants.{Include, Exclude};
 ghost use Rattle.model.specs.Subobject.{rounded_up, known, length_fits, type_at, plain_verdict, carried_if, subobject_verdict, form_from, form_verdict, top_wrong, prefix_wrong, field_wrong};
 ghost use Rattle.list_subobject.specs.Items.{Readable};
 ghost use Rattle.list_subobject.specs.Types.{number_of};
-ghost use Rattle.list_form.specs.Checks.{head_wrong};
+ghost use Rattle.list_form.specs.Checks.{head_wrong, IsFormCheck};
 
 use list_subobject::types::{SubobjectType, is_exrs, type_of, type_there};
 use list_subobject::walk::next_after;
@@ -145,17 +145,32 @@ fn plain_at(kind: ListKind, list: &[u8], at: usize, end: usize) -> Verdict
     Ok(())
 }
 
+// The first subobject that a check of their form refuses, of those of a list from an offset up to an end, refuses them all.
+fn each<F: Fn(usize) -> Verdict>(list: &[u8], from: usize, end: usize, check: F) -> Verdict
+    requires inside { (from ≤ end) × (end ≤ length list.now) }
+    requires callable { (at : ℕ) → at < end → F.pre check at }
+    requires checks { (kind : ListKind) × IsFormCheck (F.post check) kind list.now end }
+    ensures { (kind : ListKind) → IsFormCheck (F.post check) kind list.now end → result ≡ form_from kind list.now end from }
+{
+    let mut at = from;
+    while at < end {
+        check(at)?;
+        at = next_after(list, at);
+    }
+    Ok(())
+}
+
 // The form of what an EXRS carries: subobjects as in an exclude list, from an offset up to its end.
 fn inside_form(list: &[u8], from: usize, end: usize) -> Verdict
     requires { (from ≤ end) × (end ≤ length list.now) × (length list.now ≤ 1024) }
     ensures { result ≡ form_from Exclude list.now end from }
 {
-    let mut at = from;
-    while at < end {
-        plain_at(ListKind::Exclude, list, at, end)?;
-        at = next_after(list, at);
-    }
-    Ok(())
+    each(
+        list,
+        from,
+        end,
+        |at| plain_at(ListKind::Exclude, list, at, end),
+    )
 }
 
 // What an EXRS of right head carries: nothing inside is 26.
@@ -191,10 +206,5 @@ pub fn form(kind: ListKind, list: &[u8]) -> Verdict
     requires { length list.now ≤ 1024 }
     ensures { result ≡ form_verdict kind list.now }
 {
-    let mut at: usize = 0;
-    while at < list.len() {
-        form_at(kind, list, at)?;
-        at = next_after(list, at);
-    }
-    Ok(())
+    each(list, 0, list.len(), |at| form_at(kind, list, at))
 }
