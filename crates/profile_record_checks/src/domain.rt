@@ -4,7 +4,7 @@ ghost use Rattle.model.specs.Bytes.{all_zero};
 ghost use Rattle.model.specs.Verdict.{in_turn};
 ghost use Rattle.model.specs.Profile.{domain_count, domain_start, area_length_fits, domain_malformed, domain_misordered, domain_verdict};
 
-use model::{Domain, Reason, Verdict};
+use model::{Reason, Verdict};
 use profile_records::domain::domain_at;
 use profile_records::header::{class_of, domain_count};
 use profile_reserved::{as_misplaced, as_nobodys};
@@ -22,12 +22,12 @@ fn area_length_fits(kind: u8, length: u8) -> bool
     none | ospf | is_is
 }
 
-// The area is of a length that its kind may have, and its bytes past that are zero.
-fn area_fits(d: Domain) -> bool
-    requires { length d.area ≡ 13 }
-    ensures { result ≡ area_length_fits d.kind d.length && all_zero (drop d.length d.area) }
+// An area's length is one that its kind may have, and its bytes past that are zero.
+fn area_fits(kind: u8, used: u8, area: &[u8]) -> bool
+    requires { length area.now ≡ 13 }
+    ensures { result ≡ area_length_fits kind used && all_zero (drop used area.now) }
 {
-    area_length_fits(d.kind, d.length) && all_zero(&d.area[d.length as usize..])
+    area_length_fits(kind, used) && all_zero(&area[used as usize..])
 }
 
 // Kind unknown, length not the kind's, an area byte after the length or the last byte not zero, an AS that is nobody's.
@@ -35,9 +35,10 @@ fn domain_malformed(s: &[u8], i: usize) -> bool
     requires { domain_start i + 20 ≤ length s.now }
     ensures { result ≡ domain_malformed s.now i }
 {
+    let at = 12 + 20 * i;
     let d = domain_at(s, i);
-    let fits = area_fits(d);
-    let last = s[12 + 20 * i + 19];
+    let fits = area_fits(d.kind, d.length, &s[at + 6..at + 19]);
+    let last = s[at + 19];
     let nobodys = as_nobodys(d.asn);
     !fits | (last != 0) | nobodys
 }

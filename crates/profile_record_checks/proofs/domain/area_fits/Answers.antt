@@ -14,16 +14,16 @@ use Rattle.profile_record_checks.proofs.domain.area_fits.Goals as goal
 
 pub slice_bounds-all_zero-count : goal.slice_bounds-all_zero-count
 slice_bounds-all_zero-count c =
-    let short = fits-short c.args.d.kind c.args.d.length (sym c.area_length_fits.ensures ∙ c.if-area_length_fits.true) in
+    let short = fits-short c.args.kind c.args.used (sym c.area_length_fits.ensures ∙ c.if-area_length_fits.true) in
     omega arith
 
 pub slice_bounds-all_zero-start : goal.slice_bounds-all_zero-start
 slice_bounds-all_zero-start c =
-    let short = fits-short c.args.d.kind c.args.d.length (sym c.area_length_fits.ensures ∙ c.if-area_length_fits.true) in
+    let short = fits-short c.args.kind c.args.used (sym c.area_length_fits.ensures ∙ c.if-area_length_fits.true) in
     search rules
 
 pub returns-then-area_length_fits : goal.returns-then-area_length_fits
 returns-then-area_length_fits c =
-    let d = c.args.d in
+    let a = c.args in
     rw (sym c.area_length_fits.ensures ∙ c.if-area_length_fits.true)
-    (c.all_zero.ensures ∙ ap (list_all (λ (x : ℕ). eqb x 0)) (between_to_end d.area d.length (length d.area) (le_refl (length d.area))) ∙ zeros (drop d.length d.area))
+    (c.all_zero.ensures ∙ ap (list_all (λ (x : ℕ). eqb x 0)) (between_to_end a.area.now a.used (length a.area.now) (le_refl (length a.area.now))) ∙ zeros (drop a.used a.area.now))
