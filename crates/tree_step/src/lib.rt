@@ -9,7 +9,7 @@ ghost use Rattle.model.specs.declared.ListKind.TheVariants.{Exclude};
 ghost use Rattle.model.specs.Floats.{in_range};
 ghost use Rattle.model.specs.Path.{keeps_pin};
 ghost use Rattle.model.specs.Subobject.{form_verdict};
-ghost use Rattle.model.specs.WrittenList.{pin_if};
+ghost use Rattle.laws.specs.Stops.{pin_as};
 ghost use Rattle.laws.specs.Exrs.{Stretch};
 ghost use Rattle.laws.specs.Lists.{lists_of};
 ghost use Rattle.profile_records.specs.Layout.{layout_of, RightProfile};
@@ -32,8 +32,7 @@ pub struct Leg {
     pub hops: HopRange,
     pub round: Round,
     pub excluded: bool,
-    pub pinned: u8,
-    pub pin: NodeAddress,
+    pub pin: Option<NodeAddress>,
     pub exrs: usize,
     pub named: usize,
     pub start: usize,
@@ -42,19 +41,19 @@ pub struct Leg {
 }
 
 // The entry constraint, if there is one, is kept by a node.
-fn keeps_pin(pinned: u8, pin: NodeAddress, node: NodeAddress) -> bool
-    ensures { result ≡ keeps_pin (pin_if pinned pin.0) node.0 }
+fn keeps_pin(pin: Option<NodeAddress>, node: NodeAddress) -> bool
+    ensures { result ≡ keeps_pin (pin_as pin) node.0 }
 {
-    pinned == 0 || node == pin
+    pin.is_none_or(|pinned| node == pinned)
 }
 
 // A node may be an entry of the leg's domain.
 fn allowed_at(include: &[u8], exclude: &[u8], leg: Leg, node: NodeAddress) -> bool
     requires { (form_verdict Exclude exclude.now ≡ Pass) × Stretch include.now leg.exrs leg.named }
-    ensures { result ≡ allowed_by (leg_exclusions (lists_of include.now exclude.now) leg) leg.excluded leg.pinned leg.pin.0 node.0 }
+    ensures { result ≡ allowed_by (leg_exclusions (lists_of include.now exclude.now) leg) leg.excluded leg.pin node.0 }
 {
     !leg.excluded
-        && keeps_pin(leg.pinned, leg.pin, node)
+        && keeps_pin(leg.pin, node)
         && !excludes_node_there(include, exclude, leg.exrs, leg.named, leg.round, node)
 }
 
