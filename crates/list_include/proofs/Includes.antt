@@ -84,7 +84,7 @@ area-end s at h = sym (ap M.area_next (subobjects-end s (length s) at h))
 
 abbrev first : ℕ → DomainIndex → State
 first asn d =
-    record { asn = asn; count = 1; stops = replicate 16 (record { domain = d; pin = None; named = 0 }); pin = None; waiting = None }
+    record { asn = asn; count = 1; stops = replicate 16 (record { domain = d; pin = None; named = 0 }); node = None; waiting = None }
 
 pub started
     : (s : List ℕ) (d : DomainIndex) (x : ℕ) → d.0 < domain_count s → x ≡ number 4 s (domain_start d.0)

@@ -40,10 +40,10 @@ length-stops list st = stops-length list st.stops st.count
 
 module _ (st : State) (at : ℕ) (d : DomainIndex) (sound : SoundState st) (room : st.count < 16) where
   abbrev new : NamedStop
-  new = record { domain = d; pin = st.pin; named = at }
+  new = record { domain = d; pin = st.node; named = at }
 
   abbrev pub longer : State
-  longer = record { asn = st.asn; count = st.count + 1; stops = set st.stops st.count new; pin = None; waiting = None }
+  longer = record { asn = st.asn; count = st.count + 1; stops = set st.stops st.count new; node = None; waiting = None }
 
   there : stop_at longer.stops st.count ≡ new
   there = get_or-set_same st.stops st.count new _ (omega (arith, sound.stops-long))
@@ -213,7 +213,7 @@ still-sound st st' c d sound =
 
 -- another AS: all else stays
 pub with_system_lem : (list : List ℕ) (at : ℕ) (st : State) (asn : ℕ) → SoundState st → Standing list at st
-    → StateIs list at (record { asn = asn; count = st.count; stops = st.stops; pin = st.pin; waiting = st.waiting }) (M.with_system (state_of list at st) asn)
+    → StateIs list at (record { asn = asn; count = st.count; stops = st.stops; node = st.node; waiting = st.waiting }) (M.with_system (state_of list at st) asn)
 unfolding stops_of
 with_system_lem list at st asn sound standing =
     record {
@@ -229,10 +229,10 @@ left_snoc [] at what = refl
 left_snoc (x ∷ w) at what = refl
 
 module _ (list : List ℕ) (at next : ℕ) (st : State) (what : M.Waits) (sound : SoundState st) (standing : Standing list at st) (past : Past list at next (M.waiting_for at what ∷ []) st)
-    (pin : Option NodeAddress) (waiting : Option Refusal)
-    (pinned : pin_as pin ≡ M.pin_of (state_waits list at st ++ (M.waiting_for at what ∷ [])))
+    (node : Option NodeAddress) (waiting : Option Refusal)
+    (pinned : pin_as node ≡ M.pin_of (state_waits list at st ++ (M.waiting_for at what ∷ [])))
     (left : waiting ≡ left_or st.waiting (M.left_over what) at) where
-  pub waits_more : StateIs list next (with_waiting st pin waiting) (M.waits_too at (state_of list at st) what)
+  pub waits_more : StateIs list next (with_waiting st node waiting) (M.waits_too at (state_of list at st) what)
   unfolding stops_of
   waits_more =
       record {
@@ -251,11 +251,7 @@ module _ (list : List ℕ) (at next : ℕ) (st : State) (what : M.Waits) (sound 
             };
       }
 
--- an entry constraint waits or not
-pub pin-waiting : (pin : Option NodeAddress) (p : Math.Option ℕ) → pin_as pin ≡ p → is_some pin ≡ true → (other : ℕ) × (p ≡ Math.some other)
-pin-waiting None p e t = absurd (cc)
-pin-waiting (Some node) p e t = (node.0, sym e)
-
+-- no entry constraint waits
 pub none_waiting : (pin : Option NodeAddress) (p : Math.Option ℕ) → pin_as pin ≡ p → is_some pin ≡ false → p ≡ Math.none
 none_waiting None p e f = sym e
 none_waiting (Some node) p e f = absurd (cc)

@@ -71,7 +71,7 @@ Placed list st = (i : ℕ) → i < st.count → Stretch list (stretch_start st.s
 pub record Standing (list : List ℕ) (at : ℕ) (st : State) : Type 0 where
   pub placed : Placed list st
   pub behind : Stretch list (since st) at
-  pub pin_is : pin_as st.pin ≡ M.pin_of (state_waits list at st)
+  pub pin_is : pin_as st.node ≡ M.pin_of (state_waits list at st)
   pub left_is : st.waiting ≡ left_by (state_waits list at st)
 
 -- a sound state that stands for this one where the reading has come to an offset
@@ -87,12 +87,12 @@ pub record Past (list : List ℕ) (at next : ℕ) (new : List M.Waiting) (st : S
 
 -- a state with other things waiting
 abbrev pub with_waiting : State → Option NodeAddress → Option Refusal → State
-with_waiting st pin waiting =
+with_waiting st node waiting =
     record {
       asn = st.asn;
       count = st.count;
       stops = st.stops;
-      pin = pin;
+      node = node;
       waiting = waiting;
     }
 

@@ -16,6 +16,7 @@ ghost use Rattle.list_include.specs.Reading.{subobject_of, state_of, state_waits
 use crate::named_domains::{of_area, of_system};
 use crate::state::{State, name_found, wait_exrs, wait_for, with_asn};
 use list_subobject::item::{Item, Named};
+use list_subobject::types::SubobjectType;
 use list_subobject::walk::subobject_at;
 use model::{DomainIndex, NamedStop, Refusal};
 use wire::u32_at;
@@ -75,10 +76,7 @@ fn area_at(list: &[u8], at: usize) -> bool
         return false;
     }
     let t = list[at] % 128;
-    if t == 6 {
-        return true;
-    }
-    t == 7
+    t == SubobjectType::OspfArea as u8 || t == SubobjectType::IsisArea as u8
 }
 
 // The reading starts in the ingress domain, with its AS as current.
@@ -95,7 +93,7 @@ fn start(profile: &[u8], ingress: DomainIndex) -> State
         asn: u32_at(profile, 12 + 20 * ingress.0 as usize),
         count: 1,
         stops: [first; 16],
-        pin: None,
+        node: None,
         waiting: None,
     }
 }

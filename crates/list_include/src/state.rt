@@ -16,7 +16,7 @@ pub struct State {
     pub asn: u32,
     pub count: usize,
     pub stops: [NamedStop; 16],
-    pub pin: Option<NodeAddress>,
+    pub node: Option<NodeAddress>,
     pub waiting: Option<Refusal>,
 }
 
@@ -36,11 +36,11 @@ fn add(st: State, at: usize, d: DomainIndex) -> State
     let mut next = st;
     next.stops[st.count] = NamedStop {
         domain: d,
-        pin: st.pin,
+        pin: st.node,
         named: at as u16,
     };
     next.count = st.count + 1;
-    next.pin = None;
+    next.node = None;
     next.waiting = None;
     next
 }
@@ -99,11 +99,11 @@ fn first_left(waiting: Option<Refusal>, reason: Reason, at: usize) -> Option<Ref
 }
 
 // The same state with this waiting.
-fn waits_too(st: State, pin: Option<NodeAddress>, waiting: Option<Refusal>) -> State
-    ensures { result ≡ with_waiting st pin waiting }
+fn waits_too(st: State, node: Option<NodeAddress>, waiting: Option<Refusal>) -> State
+    ensures { result ≡ with_waiting st node waiting }
 {
     let mut next = st;
-    next.pin = pin;
+    next.node = node;
     next.waiting = waiting;
     next
 }
@@ -114,7 +114,7 @@ pub fn wait_for(st: State, at: usize, node: NodeAddress) -> Result<State, Refusa
     ensures { (list : List ℕ) (next : ℕ) → Standing list at st → Past list at next (waiting_for at (entry node.0) ∷ []) st
         → ReadStepIs list next result (wait at (state_of list at st) node.0 (pin_of (state_waits list at st))) }
 {
-    if st.pin.is_some() {
+    if st.node.is_some() {
         return Err(refused_at(Reason::EntryConstraintLeft, at));
     }
     let first = first_left(st.waiting, Reason::EntryConstraintLeft, at);
@@ -128,7 +128,7 @@ pub fn wait_exrs(st: State, at: usize) -> State
         → StateIs list next result (waits_too at (state_of list at st) (exclusions bytes)) }
 {
     let first = first_left(st.waiting, Reason::ExrsLeft, at);
-    waits_too(st, st.pin, first)
+    waits_too(st, st.node, first)
 }
 
 // Another AS becomes current.
