@@ -15,29 +15,30 @@ use Rattle.model.specs.Bytes.{bytes_of}
 use Rattle.model.specs.Profile.{area_length_fits}
 use Rattle.model.specs.Subobject.{rounded_up}
 use Rattle.model.specs.WrittenList.{written_pin, system_if, written_area}
+use Rattle.laws.specs.Stops.{pin_as}
 use Rattle.laws.proofs.AreaLengths.{fits-cases, fits-short}
 use Rattle.buffers.specs.Placed.{Put}
-use Rattle.list_writer.specs.Writing.{AreaRight, node_of, stop_bytes, named_size}
+use Rattle.list_writer.specs.Writing.{AreaRight, stop_bytes, named_size}
 use Rattle.buffers.proofs.Places.{take-replicate, put_append, number_put}
 
 -- ---- what the code puts
 
-pub pin-long : (pin : Std.Option NodeAddress) (node : NodeAddress) → pin ≡ Std.Some node → length (written_pin (node_of pin)) ≡ 8
+pub pin-long : (pin : Std.Option NodeAddress) (node : NodeAddress) → pin ≡ Std.Some node → length (written_pin (pin_as pin)) ≡ 8
 unfolding bytes_of
-pin-long pin node e = ap (λ (p : Std.Option NodeAddress). length (written_pin (node_of p))) e
+pin-long pin node e = ap (λ (p : Std.Option NodeAddress). length (written_pin (pin_as p))) e
 
 pub pin_put : (pin : Std.Option NodeAddress) (node : NodeAddress) (at : ℕ) (s a b c : List ℕ) → pin ≡ Std.Some node → at + 8 ≤ length s
     → a ≡ take at s ++ bytes_of 2 0x0108 ++ drop (at + 2) s
     → b ≡ take (at + 2) a ++ bytes_of 4 node.0 ++ drop (at + 2 + 4) a
     → c ≡ take (at + 6) b ++ bytes_of 2 0x2000 ++ drop (at + 6 + 2) b
-    → Put at (written_pin (node_of pin)) s c (at + 8)
+    → Put at (written_pin (pin_as pin)) s c (at + 8)
 unfolding bytes_of
 pin_put pin node at s a b c m h e f g =
     let whole : Put at (bytes_of 2 0x0108 ++ bytes_of 4 node.0 ++ bytes_of 2 0x2000) s c (at + 8) =
     put_append (omega arith)
     (put_append (omega arith) (number_put 2 0x0108 at (at + 2) s a refl e) (number_put 4 node.0 (at + 2) (at + 6) a b (omega arith) f))
     (number_put 2 0x2000 (at + 6) (at + 8) b c (omega arith) g) in
-    subst (λ (p : Std.Option NodeAddress). Put at (written_pin (node_of p)) s c (at + 8)) (sym m) whole
+    subst (λ (p : Std.Option NodeAddress). Put at (written_pin (pin_as p)) s c (at + 8)) (sym m) whole
 
 pub system-long : (again : Bool) (asn : ℕ) → again ≡ false → length (system_if again asn) ≡ 8
 unfolding bytes_of

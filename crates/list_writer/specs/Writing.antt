@@ -4,7 +4,6 @@ use Rattle.std.specs.Prelude as Std
 use Rattle.std.proofs.Math.Option.{Option, none, some}
 use Rattle.model.specs.Verdict.{Pass}
 use Rattle.model.specs.declared.Domain.{Domain}
-use Rattle.model.specs.declared.NodeAddress.{NodeAddress}
 use Rattle.model.specs.declared.Refusal.{Refusal}
 use Rattle.model.specs.Lists.{any, all_different, over}
 use Rattle.model.specs.Profile.{area_length_fits, domains, verdict_on}
@@ -16,11 +15,6 @@ use Rattle.model.specs.Calls.{write_list}
 pub record AreaRight (d : Domain) : Type 0 where
   pub fits : area_length_fits d.kind d.length ≡ true
   pub whole : length d.area ≡ 13
-
--- the node of an entry constraint
-abbrev pub node_of : Std.Option NodeAddress → Option ℕ
-node_of Std.None = none
-node_of (Std.Some node) = some node.0
 
 -- the AS of the domain before, which the first has not
 abbrev pub before_of : Std.Option ℕ → Option ℕ

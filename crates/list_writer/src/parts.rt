@@ -2,17 +2,19 @@
 ghost use Rattle.std.specs.Prelude.{◌+◌, ◌-◌, ◌≤◌, length};
 ghost use Rattle.model.specs.WrittenList.{written_pin, system_if, written_area};
 ghost use Rattle.buffers.specs.Placed.{Put};
-ghost use Rattle.list_writer.specs.Writing.{AreaRight, node_of, stop_bytes};
+ghost use Rattle.laws.specs.Stops.{pin_as};
+ghost use Rattle.list_writer.specs.Writing.{AreaRight, stop_bytes};
 
 use buffers::put_bytes;
 use list_form::rounded_up;
+use list_subobject::types::SubobjectType;
 use model::{Domain, NodeAddress};
 use wire::{put_u16, put_u32};
 
 // Type 1, prefix length 32: an entry constraint, where there is one.
 fn put_pin(out: &mut [u8], at: usize, pin: Option<NodeAddress>) -> usize
-    requires { at + length (written_pin (node_of pin)) ≤ length out.old }
-    ensures { Put at (written_pin (node_of pin)) out.old out.new result }
+    requires { at + length (written_pin (pin_as pin)) ≤ length out.old }
+    ensures { Put at (written_pin (pin_as pin)) out.old out.new result }
 {
     let Some(node) = pin else {
         return at;
@@ -31,7 +33,7 @@ fn put_system(out: &mut [u8], at: usize, again: bool, asn: u32) -> usize
     if again {
         return at;
     }
-    let head: [u8; 4] = [5, 8, 0, 0];
+    let head: [u8; 4] = [SubobjectType::WideSystem as u8, 8, 0, 0];
     let rest = put_bytes(out, at, &head, 4);
     put_u32(out, rest, asn);
     rest + 4
@@ -66,8 +68,8 @@ pub fn put_stop(
     again: bool,
     d: Domain,
 ) -> usize
-    requires { (at + length (stop_bytes (node_of pin) exrs.now again d) ≤ length out.old) × AreaRight d }
-    ensures { Put at (stop_bytes (node_of pin) exrs.now again d) out.old out.new result }
+    requires { (at + length (stop_bytes (pin_as pin) exrs.now again d) ≤ length out.old) × AreaRight d }
+    ensures { Put at (stop_bytes (pin_as pin) exrs.now again d) out.old out.new result }
 {
     let stretch = put_pin(out, at, pin);
     let system = put_bytes(out, stretch, exrs, exrs.len());

@@ -2,7 +2,8 @@
 ghost use Rattle.std.specs.Prelude.{◌≡◌, ℕ, ◌+◌, ◌≤◌, ◌<◌, length};
 ghost use Rattle.model.specs.Profile.{domains};
 ghost use Rattle.model.specs.WrittenList.{written_pin, pin_if, system_if, written_area, stops, written};
-ghost use Rattle.list_writer.specs.Writing.{AreaRight, node_of, system_again, named_size, Fitting};
+ghost use Rattle.laws.specs.Stops.{pin_as};
+ghost use Rattle.list_writer.specs.Writing.{AreaRight, system_again, named_size, Fitting};
 
 use list_form::rounded_up;
 use model::{Domain, NodeAddress};
@@ -10,7 +11,7 @@ use profile_records::domain::domain_at;
 
 // The entry constraint that a mark and a node of the lent lists stand for.
 pub fn pin_of(mark: u8, node: u32) -> Option<NodeAddress>
-    ensures { node_of result ≡ pin_if mark node }
+    ensures { pin_as result ≡ pin_if mark node }
 {
     if mark == 0 {
         None
@@ -28,7 +29,7 @@ pub fn same_system(before: Option<u32>, asn: u32) -> bool
 
 // An entry constraint, whatever its node.
 fn pin_size(pin: Option<NodeAddress>) -> usize
-    ensures { (result ≤ 8) × (result ≡ length (written_pin (node_of pin))) }
+    ensures { (result ≤ 8) × (result ≡ length (written_pin (pin_as pin))) }
 {
     match pin {
         None => 0,
@@ -58,7 +59,7 @@ fn area_size(d: Domain) -> usize
 // All of a domain but its EXRS.
 fn named_size(pin: Option<NodeAddress>, again: bool, d: Domain) -> usize
     requires { AreaRight d }
-    ensures { (result ≤ 36) × (result ≡ named_size (node_of pin) again d) }
+    ensures { (result ≤ 36) × (result ≡ named_size (pin_as pin) again d) }
 {
     pin_size(pin) + (system_size(again) + area_size(d))
 }

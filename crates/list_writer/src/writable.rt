@@ -10,6 +10,7 @@ ghost use Rattle.list_writer.specs.Writing.{no_sequence, some_part_broken};
 
 use crate::sizes::list_size;
 use list_form::form;
+use list_subobject::types::SubobjectType;
 use list_subobject::walk::next_after;
 use model::ListKind;
 use wire::u16_at;
@@ -72,7 +73,7 @@ fn only_exrs(bytes: &[u8]) -> bool
 {
     let mut at = 0;
     while at < bytes.len() {
-        if bytes[at] % 128 != 33 {
+        if bytes[at] % 128 != SubobjectType::Exrs as u8 {
             return false;
         }
         at = next_after(bytes, at);
