@@ -1,8 +1,9 @@
 -- What a place as an Option says of the number that the definitions have, 0 for none. By the test of that number.
 use Rattle.std.specs.Prelude.{Option, None, Some}
+use Rattle.std.specs.Option.{is_some}
 use Prim.Native.Nat.{ℕ}
 use mathlib.Core.Path.{◌≡◌, refl, sym, ap, subst, ◌∙◌}
-use mathlib.Core.Bool.{Bool, true, false, cond}
+use mathlib.Core.Bool.{Bool, true, false, not, cond}
 use native.Mathlib.Omega.{arith}
 use lib.Dec.{eqb}
 use borrow.Author.Tests.{eqb-true, eqb-false, ne_eqb}
@@ -24,6 +25,10 @@ none_by : (n : ℕ) (none : Bool) → eqb n 0 ≡ none → ◌≡◌ {A = Option
 none_by n true e s = eqb-true n 0 e
 none_by n false e s = ap value_or_0 s
 
+is_some_by : (n : ℕ) (none : Bool) → is_some (cond none None (Some n)) ≡ not none
+is_some_by n true = refl
+is_some_by n false = refl
+
 module _ (o : Option ℕ) (n : ℕ) (is : o ≡ placed n) where
   -- where there is a place, it is that number
   pub some-placed : (x : ℕ) → o ≡ Some x → (x ≡ n) × (n ≡ 0 → ⊥)
@@ -40,3 +45,7 @@ module _ (o : Option ℕ) (n : ℕ) (is : o ≡ placed n) where
   -- what holds of a number that isn't 0 holds of the place
   pub for_placed : (P : ℕ → Type 0) → ((n ≡ 0 → ⊥) → P n) → (x : ℕ) → o ≡ Some x → P x
   for_placed P h x e = let both = some-placed x e in subst P (sym both.0) (h both.1)
+
+  -- there is a place where the number isn't 0
+  pub some-is : is_some o ≡ not (eqb n 0)
+  some-is = ap is_some is ∙ is_some_by n (eqb n 0)

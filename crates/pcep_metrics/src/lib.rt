@@ -34,7 +34,7 @@ fn next_metric(message: &[u8], from: usize) -> usize
 }
 
 // The first place met that passes a test: the one known so far, or where there is none this one, if it does.
-fn noted(hit: bool, known: Option<usize>, at: usize) -> Option<usize>
+fn noted(hit: bool, known: Option<u16>, at: u16) -> Option<u16>
     ensures { result ≡ noted_by hit known at }
 {
     if hit {
@@ -47,8 +47,8 @@ fn noted(hit: bool, known: Option<usize>, at: usize) -> Option<usize>
 #[derive(Clone, Copy)]
 pub struct MetricScan {
     pub count: usize,
-    pub bound: Option<usize>,
-    pub wrong: Option<usize>,
+    pub bound: Option<u16>,
+    pub wrong: Option<u16>,
 }
 
 pub fn judge(message: &[u8]) -> MetricScan
@@ -63,8 +63,8 @@ pub fn judge(message: &[u8]) -> MetricScan
     let mut at = next_metric(message, 4);
     while at < message.len() {
         scan.count += 1;
-        scan.bound = noted(message[at + 6] % 2 == 1, scan.bound, at);
-        scan.wrong = noted(0x7F800000 <= u32_at(message, at + 8), scan.wrong, at);
+        scan.bound = noted(message[at + 6] % 2 == 1, scan.bound, at as u16);
+        scan.wrong = noted(0x7F800000 <= u32_at(message, at + 8), scan.wrong, at as u16);
         at = next_metric(message, at + 12);
     }
     scan

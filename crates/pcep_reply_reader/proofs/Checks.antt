@@ -1,13 +1,12 @@
 -- The checks of a PCRep put together: a refusal of the frame, of a METRIC, or of what is behind them; and what is known where all pass.
-use Rattle.std.specs.Prelude.{Option, None, Some, Err}
+use Rattle.std.specs.Prelude.{Option, Err}
 use Rattle.std.specs.Option.{is_some}
 use Prim.Native.Nat.{ℕ, ◌+◌, ◌≤◌}
 use native.Mathlib.Omega.{arith}
-use mathlib.Core.Path.{◌≡◌, refl, sym, ap, ◌∙◌}
-use mathlib.Core.Bool.{Bool, true, false, not, cond}
+use mathlib.Core.Path.{◌≡◌, refl, sym, ◌∙◌}
 use mathlib.Core.List.{List}
 use lib.ListN.{length, drop, length-take, length-drop}
-use lib.Dec.{eqb, ltb}
+use lib.Dec.{ltb}
 use borrow.Author.Tests.{eqb-true, ltb-false, eq-eqb, not-false}
 use Rattle.model.specs.declared.Refusal.{Refusal}
 use Rattle.model.specs.Verdict.{Pass, refuse_if, ◌and_then◌}
@@ -21,6 +20,7 @@ use Rattle.pcep_model.specs.Metrics.{metrics, wrong_metric}
 use Rattle.pcep_model.specs.Pcreq.{list_in}
 use Rattle.pcep_model.specs.Pcrep.{ero_verdict, addresses_in, route_in, pcrep_fields, pcrep_verdict}
 use Rattle.pcep_laws.specs.Firsts.{placed}
+use Rattle.pcep_laws.proofs.Firsts.{some-is}
 use Rattle.pcep_message.specs.declared.objects.Objects.{Objects}
 use Rattle.pcep_message.specs.Framed.{FramePassed}
 use Rattle.pcep_metrics.specs.Along.{Passed}
@@ -35,13 +35,6 @@ rest_form body count address_room metric_room e =
     ((and_then_pass (ero_verdict body) (room_verdict (length (addresses_in body)) address_room)).0
     ((and_then_pass (ero_verdict body and_then room_verdict (length (addresses_in body)) address_room) (room_verdict count metric_room)).0 e).0
     ).0
-
-some_by : (n : ℕ) (none : Bool) → is_some (cond none None (Some n)) ≡ not none
-some_by n true = refl
-some_by n false = refl
-
-some-is : (o : Option ℕ) (n : ℕ) → o ≡ placed n → is_some o ≡ not (eqb n 0)
-some-is o n e = ap is_some e ∙ some_by n (eqb n 0)
 
 module _ (s : List ℕ) (address_room metric_room : ℕ) where
   pub by_frame : (x : Refusal) → message_verdict Pcrep s ≡ Err x → pcrep_verdict s address_room metric_room ≡ Err x

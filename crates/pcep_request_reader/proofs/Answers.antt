@@ -1,5 +1,5 @@
 -- What is answered and left in the buffers is the outcome of `read_pcreq`: on a refusal nothing is written, else the METRICs are.
-use Rattle.std.specs.Prelude.{Err}
+use Rattle.std.specs.Prelude.{Ok, Err}
 use Prim.Native.Nat.{ℕ}
 use mathlib.Core.Path.{◌≡◌, sym, ap, ◌∙◌}
 use mathlib.Core.List.{List, map}
@@ -9,7 +9,6 @@ use Rattle.model.specs.Lists.{over}
 use Rattle.model.specs.Calls.{Outcome}
 use Rattle.laws.proofs.Lists.{over_nothing}
 use Rattle.pcep_model.specs.declared.PcreqFields.{PcreqFields}
-use Rattle.pcep_model.specs.declared.PcreqAnswer.TheVariants.{Read, Refused}
 use Rattle.pcep_model.specs.Metrics.{Metric, metrics}
 use Rattle.pcep_model.specs.Pcreq.{pcreq_fields, pcreq_verdict, answer_pcreq, read_pcreq, numbers_of_pcreq}
 use Rattle.buffers.specs.Capacity.{least3}
@@ -24,7 +23,7 @@ module _ (s kinds flags values : List ℕ) where
   unfolding read_pcreq
   outcome v e = ap (λ (x : Verdict). answer_pcreq x s) e
 
-  pub read-refused : (x : Refusal) → pcreq_verdict s room ≡ Err x → ReadBy s kinds flags values (Refused x) kinds flags values
+  pub read-refused : (x : Refusal) → pcreq_verdict s room ≡ Err x → ReadBy s kinds flags values (Err x) kinds flags values
   read-refused x e =
       let o = outcome (Err x) e in
       record {
@@ -39,11 +38,11 @@ module _ (s kinds flags values : List ℕ) where
       → kinds' ≡ over (map kind_of (metrics s)) kinds
       → flags' ≡ over (map flags_of (metrics s)) flags
       → values' ≡ over (map value_of (metrics s)) values
-      → ReadBy s kinds flags values (Read f) kinds' flags' values'
+      → ReadBy s kinds flags values (Ok f) kinds' flags' values'
   read_done f kinds' flags' values' e are k g v =
       let o = outcome Pass e in
       record {
-        numbers = ap (λ (x : PcreqFields). numbers_of_pcreq (Read x)) are ∙ sym (ap (λ (p : Outcome Metric). p.numbers) o);
+        numbers = ap (λ (x : PcreqFields). numbers_of_pcreq (Ok x)) are ∙ sym (ap (λ (p : Outcome Metric). p.numbers) o);
         in_kinds = k ∙ sym (ap (λ (p : Outcome Metric). over (map kind_of p.written) kinds) o);
         in_flags = g ∙ sym (ap (λ (p : Outcome Metric). over (map flags_of p.written) flags) o);
         in_values = v ∙ sym (ap (λ (p : Outcome Metric). over (map value_of p.written) values) o);

@@ -1,11 +1,10 @@
 -- What a PCReq carries as a call takes it, over `Pcreq` of `pcep_model`.
-use Rattle.std.specs.Prelude.{ℕ, ◌+◌, ◌≤◌, ◌≡◌, List, length, Err}
+use Rattle.std.specs.Prelude.{ℕ, ◌+◌, ◌≤◌, ◌≡◌, List, length, Result, Ok, Err}
+use Rattle.model.specs.declared.Refusal.{Refusal}
 use Rattle.request.specs.CheckedRequest.{request_for}
 use Rattle.pcep_model.specs.declared.MessageKind.TheVariants.{Pcreq}
 use Rattle.pcep_model.specs.Objects.{message_verdict}
 use Rattle.pcep_model.specs.Pcreq.{list_in, carried}
-use Rattle.pcep_request_reader.specs.declared.carried.Carried.{Carried}
-use Rattle.pcep_request_reader.specs.declared.carried.Carried.TheVariants.{Refused, Request}
 use Rattle.pcep_request_reader.specs.declared.carried.CarriedRequest.{CarriedRequest}
 use Rattle.model.specs.Verdict.{Pass}
 
@@ -18,6 +17,6 @@ pub record CarriedRequestIs (ingress : ℕ) (s : List ℕ) (r : CarriedRequest) 
   pub include-inside : r.include.start + r.include.size ≤ length s
   pub exclude-inside : r.exclude.start + r.exclude.size ≤ length s
 
-abbrev pub CarriedIs : ℕ → List ℕ → Carried → Type 0
-CarriedIs ingress s (Refused x) = message_verdict Pcreq s ≡ Err x
-CarriedIs ingress s (Request r) = CarriedRequestIs ingress s r
+abbrev pub CarriedIs : ℕ → List ℕ → Result CarriedRequest Refusal → Type 0
+CarriedIs ingress s (Err x) = message_verdict Pcreq s ≡ Err x
+CarriedIs ingress s (Ok r) = CarriedRequestIs ingress s r

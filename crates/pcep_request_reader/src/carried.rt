@@ -1,9 +1,10 @@
 // The request that a PCReq carries, as a call takes it, with the ingress domain beside the message.
-ghost use Rattle.std.specs.Prelude.{◌≡◌};
+ghost use Rattle.std.specs.Prelude.{◌≡◌, unwrap_or};
+ghost use Rattle.std.specs.Option.{is_some};
 ghost use Rattle.model.specs.Request.{limits_of_bits};
 ghost use Rattle.pcep_request_reader.specs.Carried.{CarriedIs};
 
-use crate::fields::{ParsedPcreq, PcreqParts, take_apart};
+use crate::fields::{PcreqParts, take_apart};
 use model::{DomainIndex, Limits, Refusal};
 use pcep_model::Extent;
 use request::Asked;
@@ -17,45 +18,31 @@ pub struct CarriedRequest {
     pub exclude: Extent,
 }
 
-// A PCReq refused by the checks of its frame, or the request that it carries.
-#[derive(Clone, Copy)]
-pub enum Carried {
-    Refused(Refusal),
-    Request(CarriedRequest),
-}
-
 // The bandwidth, and the METRIC that is judged as the bound.
 fn limits_carried(parts: PcreqParts) -> Limits
-    ensures { result ≡ limits_of_bits parts.fields.bandwidth parts.bounded parts.bound }
+    ensures { result ≡ limits_of_bits parts.fields.bandwidth (is_some parts.bound) (unwrap_or parts.bound 0) }
 {
-    let fields = parts.fields;
-    limits_of(fields.bandwidth, parts.bounded, parts.bound)
+    limits_of(
+        parts.fields.bandwidth,
+        parts.bound.is_some(),
+        parts.bound.unwrap_or(0),
+    )
 }
 
-pub fn carried_by(ingress: DomainIndex, message: &[u8]) -> Carried
+// The checks of the frame, and the request that a PCReq carries that passes them.
+pub fn carried_by(ingress: DomainIndex, message: &[u8]) -> Result<CarriedRequest, Refusal>
     ensures { CarriedIs ingress.0 message.now result }
 {
-    let parsed = take_apart(message);
-    match parsed {
-        ParsedPcreq::Refused(r) => Carried::Refused(r),
-        ParsedPcreq::Parsed(parts) => {
-            let fields = parts.fields;
-            let limits = limits_carried(parts);
-            let source = fields.source;
-            let destination = fields.destination;
-            let include = fields.include;
-            let exclude = fields.exclude;
-            let asked = Asked {
-                ingress,
-                source,
-                destination,
-                limits,
-            };
-            Carried::Request(CarriedRequest {
-                asked,
-                include,
-                exclude,
-            })
-        }
-    }
+    let parts = take_apart(message)?;
+    let fields = parts.fields;
+    Ok(CarriedRequest {
+        asked: Asked {
+            ingress,
+            source: fields.source,
+            destination: fields.destination,
+            limits: limits_carried(parts),
+        },
+        include: fields.include,
+        exclude: fields.exclude,
+    })
 }

@@ -1,50 +1,50 @@
 -- `pcep_request_reader::fields::take_apart` meets its contract: the frame's refusal, or the fields of a message whose frame passes.
-use Prim.Native.Nat.{ℕ}
-use mathlib.Core.Path.{◌≡◌, refl, sym, ap, ◌∙◌}
-use mathlib.Core.Bool.{not}
+use Prim.Native.Nat.{ℕ, ◌+◌, ◌≤◌}
+use mathlib.Core.Path.{◌≡◌, ap, subst, ◌∙◌}
 use native.Mathlib.Omega.{arith}
-use lib.Dec.{eqb}
-use Rattle.pcep_model.specs.Metrics.{value_at}
-use Rattle.pcep_model.specs.Pcreq.{judged_metric, bits_at}
-use Rattle.pcep_request_reader.proofs.Standing.{judged_stands, passed, framed}
+use lib.ListN.{length}
+use Rattle.std.specs.Option.{option_map}
+use Rattle.pcep_model.specs.declared.MessageKind.TheVariants.{Pcreq}
+use Rattle.pcep_model.specs.Metrics.{value_at, wrong_metric}
+use Rattle.pcep_model.specs.Pcreq.{judged_metric}
+use Rattle.pcep_laws.specs.Firsts.{placed}
+use Rattle.pcep_laws.proofs.Firsts.{for_placed, some-is}
+use Rattle.pcep_message.specs.Framed.{FrameIs, FramePassed}
+use Rattle.pcep_request_reader.proofs.Standing.{judged_stands, judged_placed, passed, framed}
 use Rattle.pcep_request_reader.proofs.fields.take_apart.Goals as goal
-use Rattle.pcep_request_reader.proofs.fields.take_apart.Goals.{After-judged-at}
+use Rattle.pcep_request_reader.proofs.fields.take_apart.Goals.{After-judged, In_ok-firsts}
+
+-- the frame passes
+frame : (c : In_ok-firsts) → FramePassed Pcreq c.args.message.now c.in_ok-firsts.firsts
+frame c = subst (FrameIs Pcreq c.args.message.now) c.in_ok-firsts.was c.frame.ensures
 
 -- the METRIC judged is the definition's
-judged-is : (c : After-judged-at) → c.judged-at.result ≡ judged_metric c.args.message.now
+judged-is : (c : After-judged) → c.judged.result ≡ placed (judged_metric c.args.message.now)
 judged-is c =
     let j = c.judge-met.ensures in
-    c.judged-at.ensures ∙ rw (j.wrong, j.bound) refl
-
-pub returns-in-Refuse : goal.returns-in-Refuse
-returns-in-Refuse c = sym c.frame-framed.ensures.verdict ∙ c.in-Refuse.is
+    c.judged.ensures ∙ judged_placed c.args.message.now c.judge-met.result.wrong c.judge-met.result.bound j.wrong j.bound
 
 pub judge-met-requires : goal.judge-met-requires
-judge-met-requires c = let f = c.frame-framed in passed c.args.message.now f.result f.ensures c.in_default.is
+judge-met-requires c = passed c.args.message.now c.in_ok-firsts.firsts (frame (goal.at.judge-met-requires c).In_ok-firsts)
 
-pub fields_of-fields-requires : goal.fields_of-fields-requires
-fields_of-fields-requires c =
-    let f = c.frame-framed in
-    framed c.args.message.now f.result f.ensures c.in_default.is _ c.judge-met.ensures.count c.judge-met.ensures.most
+pub fields_of-requires : goal.fields_of-requires
+fields_of-requires c =
+    framed c.args.message.now c.in_ok-firsts.firsts (frame (goal.at.fields_of-requires c).In_ok-firsts) _ c.judge-met.ensures.count c.judge-met.ensures.most
 
-pub bits_at-requires : goal.bits_at-requires
-bits_at-requires c =
+pub value_of-requires : goal.value_of-requires
+value_of-requires c =
     let s = c.args.message.now in
-    let f = c.frame-framed.ensures in
-    let pass = c.in_default.is in
-    (f.short pass, λ some. let o = judged_stands s (f.objects pass) (λ e. some (judged-is (goal.at.bits_at-requires c).After-judged-at ∙ e)) in omega (arith, judged-is (goal.at.bits_at-requires c).After-judged-at, o.long, o.inside))
+    let f = frame (goal.at.value_of-requires c).In_ok-firsts in
+    (f.short, for_placed c.judged.result (judged_metric s) (judged-is (goal.at.value_of-requires c).After-judged) (λ (at : ℕ). at + 12 ≤ length s) (λ some. let o = judged_stands s f.objects some in omega (arith, o.long, o.inside)))
 
 pub returns : goal.returns
 returns c =
     let s = c.args.message.now in
-    let f = c.frame-framed in
-    let pass = c.in_default.is in
-    let at = judged-is (goal.at.returns c).After-judged-at in
+    let f = frame (goal.at.returns c).In_ok-firsts in
     record {
-      verdict = sym f.ensures.verdict ∙ pass;
-      passed = passed s f.result f.ensures pass;
-      fields = c.fields_of-fields.ensures;
-      bounded = ap (λ (x : ℕ). not (eqb x 0)) at;
-      bound = c.bits_at.ensures ∙ ap (λ (x : ℕ). bits_at x (value_at s x)) at;
-      wrong = ap (λ (x : ℕ). not (eqb x 0)) c.judge-met.ensures.wrong;
+      verdict = f.verdict;
+      passed = passed s c.in_ok-firsts.firsts f;
+      fields = c.fields_of.ensures;
+      bound = c.value_of.ensures ∙ ap (option_map (λ (at : ℕ). value_at s at)) (judged-is (goal.at.returns c).After-judged);
+      wrong = c.is_some.ensures ∙ some-is c.judge-met.result.wrong (wrong_metric s) c.judge-met.ensures.wrong;
     }
