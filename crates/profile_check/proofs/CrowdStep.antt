@@ -1,11 +1,11 @@
 -- One turn of the pass that notes entry nodes, over the values that the code holds: the record read, the count carried over and the count after it.
 use Rattle.std.specs.Prelude.{Err}
 use mathlib.Core.Path.{◌≡◌, refl, sym, ap, subst, ◌∙◌}
-use mathlib.Core.Bool.{Bool, true, false, cond, ◌&&◌, ◌||◌}
+use mathlib.Core.Bool.{Bool, true, false, not, cond, ◌&&◌, ◌||◌}
 use mathlib.Core.List.{List}
 use Prim.Native.Nat.{ℕ, ◌+◌, ◌<◌, ◌≤◌}
 use native.Mathlib.Omega.{arith}
-use borrow.Author.Tests.{lt-ltb, le-ltb}
+use borrow.Author.Tests.{eqb-true, eqb-false, not-true, not-false, lt-ltb, le-ltb}
 use lib.ListN.{get_or, take}
 use lib.Dec.{eqb, ltb}
 use Rattle.model.specs.Verdict.{Pass}
@@ -15,6 +15,13 @@ use Rattle.model.specs.Profile.{Layout, domain_count, hop_count, hop_at, hop_mis
 use Rattle.profile_records.specs.Layout.{HopsWithin}
 use Rattle.profile_check.specs.Noting.{Added}
 use Rattle.profile_check.proofs.Crowding.{Noted, Passing, crowded-number, noted_more, within-domain, carry, passing_next}
+
+-- two domains are not the same, and they are, as the code tests it
+pub unlike : (x y : ℕ) → true ≡ not (eqb x y) → x ≡ y → ⊥
+unlike x y e = eqb-false x y (not-true (eqb x y) (sym e))
+
+pub alike : (x y : ℕ) → false ≡ not (eqb x y) → x ≡ y
+alike x y e = eqb-true x y (not-false (eqb x y) (sym e))
 
 pub carried-few : (t : Bool) (n m : ℕ) → n ≤ m → cond t n 0 ≤ m
 carried-few true n m h = h

@@ -19,10 +19,8 @@ fn is_noted(noted: &[u32; 16], node: NodeAddress) -> bool
     ensures { result ≡ among node.0 noted.now }
 {
     let mut found = false;
-    let mut j = 0;
-    while j < 16 {
-        found = found | (noted[j] == node.0);
-        j += 1;
+    for other in noted {
+        found |= *other == node.0;
     }
     found
 }
@@ -59,10 +57,7 @@ fn carried(
 ) -> usize
     ensures { result ≡ cond (eqb from.0 d.0 && eqb to.0 e.0) count 0 }
 {
-    if (from.0 == d.0) & (to.0 == e.0) {
-        return count;
-    }
-    0
+    if from == d && to == e { count } else { 0 }
 }
 
 // Every hop record in turn, once each has passed its own checks.
@@ -77,22 +72,17 @@ pub fn crowded_verdict(s: &[u8], layout: Layout) -> Verdict
     let mut count: usize = 0;
     let mut d = DomainIndex(0);
     let mut e = DomainIndex(0);
-    let mut i = 0;
-    while i < hops {
+    for i in 0..hops {
         let h = hop_at(s, layout, i);
-        let from = h.from;
-        let to = h.to;
-        let head = h.head;
-        count = carried(count, d, e, from, to);
-        d = from;
-        e = to;
-        if from.0 != to.0 {
-            count = note(&mut noted, count, head);
+        count = carried(count, d, e, h.from, h.to);
+        d = h.from;
+        e = h.to;
+        if h.from != h.to {
+            count = note(&mut noted, count, h.head);
             if 16 < count {
                 return refuse(Reason::CrowdedPair, (domains + i) as u32);
             }
         }
-        i += 1;
     }
     Ok(())
 }

@@ -1,6 +1,6 @@
 -- `profile_check::crowd::crowded_verdict` meets its contract. The loop's invariant: the records from `i` on decide, and what is noted are the entry nodes of the current pair
 -- (`Passing`). The measure is how many records are left.
-use Rattle.profile_check.proofs.CrowdStep.{Turn, carried-few, same-passes, same_goes_on, seventeenth, few_pass, few_go_on}
+use Rattle.profile_check.proofs.CrowdStep.{unlike, alike, Turn, carried-few, same-passes, same_goes_on, seventeenth, few_pass, few_go_on}
 use Rattle.profile_check.proofs.Crowding.{passing_start}
 use Rattle.profile_check.proofs.Passed.{all_ordered, all_numeric}
 use Rattle.profile_records.proofs.Fields.{hop-within}
@@ -14,7 +14,7 @@ use mathlib.Core.Path.{refl, ap, ◌∙◌}
 use Prim.Native.Nat.{ℕ, ◌+◌}
 use native.Mathlib.Omega.{arith}
 use Rattle.profile_check.proofs.crowd.crowded_verdict.Goals as goal
-use Rattle.profile_check.proofs.crowd.crowded_verdict.Goals.{then-from-to+else-count-gt16, else-from-to}
+use Rattle.profile_check.proofs.crowd.crowded_verdict.Goals.{then-ne+else-count-gt16, else-ne}
 
 pub loop-i-init : goal.loop-i-init
 loop-i-init c =
@@ -61,7 +61,7 @@ returns-then-count-gt16 c =
     } in
     c.refuse.ensures
     ∙ refused l.invariant.4 c.hop_count-hops.ensures c.loop-i-test.true
-    (seventeenth turn c.if-from-to.true c.note-count.result c.note-count.ensures.value c.if-count-gt16.true
+    (seventeenth turn (unlike c.hop_at-h.result.from.0 c.hop_at-h.result.to.0 c.if-ne.ensures) c.note-count.result c.note-count.ensures.value c.if-count-gt16.true
     (c.domain_count-domains.result + l.i) (ap (λ (n : ℕ). n + l.i) c.domain_count-domains.ensures))
 
 pub loop-i-preserved : goal.loop-i-preserved
@@ -80,24 +80,24 @@ loop-i-preserved c =
       is = c.hop_at-h.ensures;
       keeps = c.carried-count.ensures;
     } in
-    elim c.if-from-to.branch [
-      | then-from-to+else-count-gt16 w ↦
+    elim c.if-ne.branch [
+      | then-ne+else-count-gt16 w ↦
           let few = w.if-count-gt16.false in
           let noted = w.note-count in
           rw (w.noted-is, w.count-is) (
             few,
             noted.ensures.added.long,
             noted.ensures.added.padded few,
-            few_go_on turn w.if-from-to.true noted.result noted.ensures.value few _ noted.ensures.added,
-            passed l.invariant.4 c.loop-i-test.true (few_pass turn w.if-from-to.true noted.result noted.ensures.value few),
+            few_go_on turn (unlike x.from.0 x.to.0 w.if-ne.ensures) noted.result noted.ensures.value few _ noted.ensures.added,
+            passed l.invariant.4 c.loop-i-test.true (few_pass turn (unlike x.from.0 x.to.0 w.if-ne.ensures) noted.result noted.ensures.value few),
           )
-      | else-from-to w ↦
+      | else-ne w ↦
           rw (w.noted-is, w.count-is) (
             rw c.carried-count.ensures (carried-few same l.count 16 l.invariant.0),
             l.invariant.1,
             padded-carried same l.noted l.count _ c.carried-count.ensures l.invariant.2,
-            same_goes_on turn w.if-from-to.false,
-            passed l.invariant.4 c.loop-i-test.true (same-passes turn w.if-from-to.false),
+            same_goes_on turn (alike x.from.0 x.to.0 w.if-ne.ensures),
+            passed l.invariant.4 c.loop-i-test.true (same-passes turn (alike x.from.0 x.to.0 w.if-ne.ensures)),
           )
     ]
 

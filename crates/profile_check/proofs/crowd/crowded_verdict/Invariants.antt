@@ -1,5 +1,5 @@
 -- `profile_check::crowd::crowded_verdict` meets its contract. The loop's invariant: the records from `i` on decide, and what is noted are the entry nodes of the current pair
--- (`Passing`). The measure is how many records are left.
+-- (`Passing`).
 use Rattle.profile_check.proofs.Crowding.{Passing}
 use Rattle.profile_records.specs.Layout.{layout_of}
 use Rattle.profile_check.specs.Noting.{Padded}
@@ -7,7 +7,7 @@ use Rattle.profile_record_checks.proofs.Turned.{Turned}
 use Rattle.model.specs.Profile.{crowded_verdict}
 use lib.ListN.{length}
 use mathlib.Core.Path.{◌≡◌}
-use Prim.Native.Nat.{◌≤◌, ◌-◌}
+use Prim.Native.Nat.{◌≤◌}
 use Rattle.profile_check.proofs.crowd.crowded_verdict.Given as goal
 
 abbrev pub invariant-loop-i : goal.invariant-loop-i
@@ -17,6 +17,3 @@ invariant-loop-i l =
     × Padded l.noted l.count
     × Passing (layout_of l.layout) l.s l.d.0 l.e.0 l.i l.noted l.count
     × Turned (crowded_verdict (layout_of l.layout) l.s) l.hops l.i
-
-abbrev pub decreases-loop-i : goal.decreases-loop-i
-decreases-loop-i l = l.hops - l.i
