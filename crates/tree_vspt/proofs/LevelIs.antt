@@ -31,7 +31,7 @@ module _
     (S : Search) (L : Layout) (s : List ℕ) (lists : Lists) (few : length S.sequence ≤ 16) (cheap : (h : Hop) → Memᴰ h S.hops → h.cost ≤ cost_limit)
     (hops_are : S.hops ≡ hops L s) (i : ℕ) (k : i < length S.sequence) (leg : Leg) (is : LegIs S lists i leg)
   where
-    tests : (a : ℕ) → allowed_by (leg_exclusions lists leg) leg.excluded leg.pinned leg.pin.0 a ≡ allowed S i a
+    tests : (a : ℕ) → allowed_by (leg_exclusions lists leg) leg.excluded leg.pin a ≡ allowed S i a
     unfolding allowed
     tests a =
         (λ j. not (excluded_node (is.exclusions_are j) a) && (not (is.excluded-is j) && keeps_pin (is.pin-is j) a))

@@ -11,7 +11,8 @@ use lib.ListN.{length, get_or, take, length-map, get_or-map}
 use lib.Seq.{ext_get_or, length-take-le, get_or-take}
 use borrow.Author.Tests.{ltb-true, ltb-false}
 use Rattle.model.specs.declared.DomainIndex.{DomainIndex}
-use Rattle.model.specs.declared.NodeAddress.{NodeAddress}
+use Rattle.model.specs.declared.NamedStop.{NamedStop}
+use Rattle.std.specs.Prelude.{None}
 use Rattle.model.specs.Lists.{all_different, count_from}
 use Rattle.model.specs.Profile.{Layout, domain_start, domain_at, domains}
 use Rattle.model.specs.Sequence.{Stop, domain_of, domains_of, no_domain}
@@ -20,10 +21,9 @@ use Rattle.model.specs.Subobject.{Subobject, subobjects, carried}
 use Rattle.model.specs.Exclusion.{in_force, excluded_domain}
 use Rattle.model.specs.Request.{Search}
 use Rattle.model.specs.Path.{Leg, legs, leg_at, no_leg, no_stop, exclusions_at}
-use Rattle.model.specs.WrittenList.{pin_if}
 use Rattle.laws.specs.Lists.{Lists}
 use Rattle.laws.specs.Exrs.{Stretch, carried_in}
-use Rattle.laws.specs.Stops.{stretch_start, stops_of}
+use Rattle.laws.specs.Stops.{pin_as, stop_at, named_in, stretch_start, stops_of}
 use Rattle.laws.proofs.Exrs.{carried-there}
 use Rattle.list_exclusion.specs.Place.{exclusions_there}
 use Rattle.laws.proofs.Accepted.{accepted}
@@ -43,10 +43,10 @@ use Rattle.tree_vspt.specs.Leg.{next_if, next_place, LegFor}
 -- ---- a query's sequence by index
 
 pub stops-long : (include : List ℕ) (q : Query) → length (query_stops include q) ≡ q.count
-stops-long include q = stops-length include q.domains q.pinned q.pins q.named q.count
+stops-long include q = stops-length include q.stops q.count
 
 pub stop_of : (include : List ℕ) (q : Query) (i : ℕ) → i < q.count → get_or (query_stops include q) i no_stop ≡ query_stop include q i
-stop_of include q = stop_at_lem include q.domains q.pinned q.pins q.named q.count
+stop_of include q = stop_at_lem include q.stops q.count
 
 -- what the EXRS of domain i take away in the query's round
 own_stretch : (include : List ℕ) (q : Query) (i : ℕ) → i < q.count
@@ -86,14 +86,13 @@ module _ (L : Layout) (s : List ℕ) (lists : Lists) (q : Query) (ready : Ready 
   area-short = fits-short _ _ ((accepted L s ready.profile-right).domain (Q.query_domain q i) (ready.known i h)).area_fits
 
   pub record LegMade (starts firsts lasts : List ℕ) (leg : Coded.Leg) : Type 0 where
-    pub from_made : leg.from ≡ get_or q.domains i (record { 0 = 0 })
-    pub to_made : leg.to ≡ get_or q.domains (next_place q.count i) (record { 0 = 0 })
+    pub from_made : leg.from ≡ (stop_at q.stops i).domain
+    pub to_made : leg.to ≡ (stop_at q.stops (next_place q.count i)).domain
     pub round_made : leg.round ≡ q.round
     pub stretch_made : Stretch lists.include leg.exrs leg.named
-    pub carried_made : carried_in lists.include leg.exrs leg.named ≡ carried_in lists.include (stretch_start q.named i) (get_or q.named i 0)
+    pub carried_made : carried_in lists.include leg.exrs leg.named ≡ carried_in lists.include (stretch_start q.stops i) (named_in q.stops i)
     pub excluded_made : leg.excluded ≡ excluded_domain (exclusions_there q.round lists leg.exrs leg.named) (domain_at s (Q.query_domain q i))
-    pub pinned_made : leg.pinned ≡ get_or q.pinned i 0
-    pub pin_made : leg.pin ≡ get_or q.pins i (record { 0 = 0 })
+    pub pin_made : leg.pin ≡ (stop_at q.stops i).pin
     pub first_made : leg.hops.first ≡ get_or firsts i 0
     pub last_made : leg.hops.last ≡ get_or lasts i 0
     pub start_made : leg.start ≡ get_or starts i 0
@@ -102,14 +101,14 @@ module _ (L : Layout) (s : List ℕ) (lists : Lists) (q : Query) (ready : Ready 
 
   -- what counts there is what the exclude list and the EXRS of the place's domain take away
   exclusions-there
-      : (leg : Coded.Leg) → carried_in lists.include leg.exrs leg.named ≡ carried_in lists.include (stretch_start q.named i) (get_or q.named i 0)
+      : (leg : Coded.Leg) → carried_in lists.include leg.exrs leg.named ≡ carried_in lists.include (stretch_start q.stops i) (named_in q.stops i)
       → exclusions_there q.round lists leg.exrs leg.named ≡ exclusions_at (search_for L s lists q) i
   unfolding exclusions_at
   exclusions-there leg same =
       let own = ready.placed i h in
       let x = q.round in
       ap {B = List Subobject} (λ (l : List Subobject). in_force x (subobjects lists.exclude) ++ l)
-      (ap (in_force x) (same ∙ sym (carried-there lists.include (stretch_start q.named i) (get_or q.named i 0) own.inside own.right))
+      (ap (in_force x) (same ∙ sym (carried-there lists.include (stretch_start q.stops i) (named_in q.stops i) own.inside own.right))
       ∙ sym (ap (λ (p : Stop). in_force x (carried p.exrs)) (stop_of lists.include q i h))
       ∙ sym (own_stretch lists.include q i h))
 
@@ -134,7 +133,7 @@ module _ (L : Layout) (s : List ℕ) (lists : Lists) (q : Query) (ready : Ready 
                   made.excluded_made
                   ∙ ap₂ excluded_domain count
                   (sym (domain_at_lem s (Q.query_domain q i) no_domain (ready.known i h)) ∙ ap (λ (p : Stop). domain_of (domains s) p.domain) (sym (stop_of lists.include q i h)));
-              pin-is = ap₂ (λ (m : ℕ) (d : NodeAddress). pin_if m d.0) made.pinned_made made.pin_made ∙ ap (λ (p : Stop). p.pin) (sym (stop_of lists.include q i h));
+              pin-is = ap pin_as made.pin_made ∙ ap (λ (p : Stop). p.pin) (sym (stop_of lists.include q i h));
               start_is = made.start_made ∙ laid.starts_are i (omega arith);
               next-is = made.next_made ∙ laid.starts_are (suc i) (omega arith);
               end_is = made.end_made ∙ laid.starts_are (suc (suc i)) (omega arith);
@@ -166,33 +165,34 @@ unfolding count_from
 listed include q i zero = refl
 listed include q i (suc n) = ap {B = List ℕ} (λ (l : List ℕ). Q.query_domain q i ∷ l) (listed include q (suc i) n)
 
-pub domains-listed : (include : List ℕ) (q : Query) → q.count ≤ length q.domains → domains_of (query_stops include q) ≡ indexes_of q.count q.domains
+pub domains-listed : (include : List ℕ) (q : Query) → q.count ≤ length q.stops → domains_of (query_stops include q) ≡ indexes_of q.count q.stops
 unfolding stops_of
 domains-listed include q h =
     let n = q.count in
-    let index : DomainIndex → ℕ = λ d. d.0 in
+    let index : NamedStop → ℕ = λ p. p.domain.0 in
+    let none : NamedStop = record { domain = record { 0 = 0 }; pin = None; named = 0 } in
     listed include q 0 n
-    ∙ ext_get_or 0 (map (Q.query_domain q) (count_from 0 n)) (indexes_of n q.domains)
-    (length-map-count_from (Q.query_domain q) 0 n ∙ sym (length-map (take n q.domains) index ∙ length-take-le n q.domains h))
+    ∙ ext_get_or 0 (map (Q.query_domain q) (count_from 0 n)) (indexes_of n q.stops)
+    (length-map-count_from (Q.query_domain q) 0 n ∙ sym (length-map (take n q.stops) index ∙ length-take-le n q.stops h))
     (λ i l.
     let below : i < n = subst (λ (m : ℕ). i < m) (length-map-count_from (Q.query_domain q) 0 n) l in
     get_or-map-count_from (Q.query_domain q) 0 n i 0 below
     ∙ ap (Q.query_domain q) (zero-add i)
-    ∙ sym (get_or-map index (take n q.domains) i (record { 0 = 0 }) ∙ ap index (get_or-take n q.domains i (record { 0 = 0 }) below)))
+    ∙ sym (get_or-map index (take n q.stops) i none ∙ ap index (get_or-take n q.stops i none below)))
 
 -- a ready query is one that can be laid out
 module _ (L : Layout) (s : List ℕ) (lists : Lists) (q : Query) (ready : Ready L s lists q) where
-  few_enough : q.count ≤ length q.domains
-  few_enough = omega (arith, ready.most, ready.domains-long)
+  few_enough : q.count ≤ length q.stops
+  few_enough = omega (arith, ready.most, ready.stops-long)
 
-  pub several : Several q.domains q.count
+  pub several : Several q.stops q.count
   several =
       record {
         some = ready.some_domain_lem;
         most = ready.most;
-        cells = ready.domains-long;
+        cells = ready.stops-long;
         different = ap all_different (sym (domains-listed lists.include q few_enough)) ∙ ready.apart;
       }
 
-  pub covers : Covers (search_for L s lists q) L s q.domains q.count q.source.0 q.destination.0
+  pub covers : Covers (search_for L s lists q) L s q.stops q.count q.source.0 q.destination.0
   covers = record { hops_are = refl; domains_are = domains-listed lists.include q few_enough; source_is = refl; destination-is = refl }

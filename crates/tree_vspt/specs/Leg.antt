@@ -3,11 +3,11 @@ use Rattle.std.specs.Prelude.{◌≡◌, Bool, true, false, List, ltb, ℕ, suc}
 use Rattle.model.specs.Profile.{Layout}
 use Rattle.model.specs.Request.{Search}
 use Rattle.model.specs.Path.{leg_at, stop_at, exclusions_at, domain_excluded_at}
-use Rattle.model.specs.WrittenList.{pin_if}
 use Rattle.profile_hop_range.specs.Ranges.{PairRange}
 use Rattle.tree_levels.specs.Levels.{start_of}
 use Rattle.laws.specs.Exrs.{Stretch}
 use Rattle.laws.specs.Lists.{Lists}
+use Rattle.laws.specs.Stops.{pin_as}
 use Rattle.tree_step.specs.Step.{leg_exclusions}
 use Rattle.tree_step.specs.declared.Leg.{Leg}
 
@@ -24,7 +24,7 @@ pub record LegIs (S : Search) (lists : Lists) (i : ℕ) (leg : Leg) : Type 0 whe
   pub to_is : leg.to.0 ≡ (leg_at S i).to
   pub exclusions_are : leg_exclusions lists leg ≡ exclusions_at S i
   pub excluded-is : leg.excluded ≡ domain_excluded_at S i
-  pub pin-is : pin_if leg.pinned leg.pin.0 ≡ (stop_at S i).pin
+  pub pin-is : pin_as leg.pin ≡ (stop_at S i).pin
   pub start_is : leg.start ≡ start_of S i
   pub next-is : leg.next ≡ start_of S (suc i)
   pub end_is : leg.end ≡ start_of S (suc (suc i))

@@ -11,14 +11,14 @@ ghost use Rattle.profile_records.specs.Layout.{layout_of, SoundLayout};
 ghost use Rattle.tree_levels.specs.Levels.{LaidOut};
 ghost use Rattle.request.specs.Query.{search_for, Ready};
 ghost use Rattle.tree_reaches.specs.Reaches.{code_if};
-ghost use Rattle.laws.specs.Stops.{stretch_start};
+ghost use Rattle.laws.specs.Stops.{stop_at, stretch_start};
 ghost use Rattle.tree_vspt.specs.Leg.{next_place, LegFor};
 ghost use Rattle.tree_vspt.specs.Tree.{Holds, HoldsFrom, filled_at, filled_from, LaidOutFor, TreeCodes};
 
 use list_exclusion::excludes_node;
 use list_exclusion::exrs::first_exrs;
 use list_exclusion::place::excludes_domain_there;
-use model::{DomainIndex, NodeAddress, Round};
+use model::{DomainIndex, NamedStop, NodeAddress, Round};
 use profile_hop_range::HopRange;
 use profile_records::domain::domain_at;
 use profile_records::layout::Layout;
@@ -38,26 +38,26 @@ fn arrival(exclude: &[u8], round: Round, destination: NodeAddress) -> u32
 }
 
 // The domain after place i of the sequence: the next one, or, at the last, the same.
-pub fn next_domain(domains: [DomainIndex; 16], count: usize, i: usize) -> DomainIndex
-    requires { (length domains ≡ 16) × (count ≤ 16) × (i < count) }
-    ensures { result ≡ get_or domains (next_place count i) (record { 0 = 0 }) }
+pub fn next_domain(stops: &[NamedStop; 16], count: usize, i: usize) -> DomainIndex
+    requires { (length stops.now ≡ 16) × (count ≤ 16) × (i < count) }
+    ensures { result ≡ (stop_at stops.now (next_place count i)).domain }
 {
     let next = i + 1;
     if next < count {
-        return domains[next];
+        return stops[next].domain;
     }
-    domains[i]
+    stops[i].domain
 }
 
 // Where in the include list the EXRS of domain i of a sequence start to stand: behind the subobject that named the one before it.
-fn stretch_start(named: [u16; 16], i: usize) -> usize
-    requires { (length named ≡ 16) × (i < 16) }
-    ensures { result ≡ stretch_start named i }
+fn stretch_start(stops: &[NamedStop; 16], i: usize) -> usize
+    requires { (length stops.now ≡ 16) × (i < 16) }
+    ensures { result ≡ stretch_start stops.now i }
 {
     if i == 0 {
         return 0;
     }
-    named[i - 1] as usize
+    stops[i - 1].named as usize
 }
 
 // The leg from place i of the sequence. Whether its domain is excluded in the round, and whether it has EXRS at all, is asked here, once for all its entries.
@@ -75,30 +75,25 @@ fn leg_at(
     requires { Ready (layout_of layout) s.now (lists_of include.now exclude.now) q × (i < q.count) }
     ensures { (addresses : List ℕ) (tally : ℕ) → LaidOut (search_for (layout_of layout) s.now (lists_of include.now exclude.now) q) (layout_of layout) s.now addresses starts.now firsts.now lasts.now tally → LegFor (layout_of layout) s.now (search_for (layout_of layout) s.now (lists_of include.now exclude.now) q) (lists_of include.now exclude.now) i result }
 {
-    let domains = q.domains;
-    let pinned = q.pinned;
-    let pins = q.pins;
-    let from = domains[i];
-    let to = next_domain(domains, q.count, i);
+    let stop = q.stops[i];
+    let from = stop.domain;
+    let named = stop.named as usize;
     let d = domain_at(s, from.0 as usize);
     let round = q.round;
-    let named = q.named;
-    let end = named[i] as usize;
-    let exrs = first_exrs(include, stretch_start(named, i), end);
-    let excluded = excludes_domain_there(include, exclude, exrs, end, round, d);
+    let exrs = first_exrs(include, stretch_start(&q.stops, i), named);
+    let excluded = excludes_domain_there(include, exclude, exrs, named, round, d);
     Leg {
         from,
-        to,
+        to: next_domain(&q.stops, q.count, i),
         hops: HopRange {
             first: firsts[i],
             last: lasts[i],
         },
         round,
         excluded,
-        pinned: pinned[i],
-        pin: pins[i],
+        pin: stop.pin,
         exrs,
-        named: end,
+        named,
         start: starts[i],
         next: starts[i + 1],
         end: starts[i + 2],

@@ -8,6 +8,7 @@ use lib.ListN.{get_or}
 use Rattle.model.specs.Exclusion.{excluded_domain}
 use Rattle.laws.specs.Exrs.{Stretch, carried_in}
 use Rattle.laws.specs.Lists.{lists_of}
+use Rattle.laws.specs.Stops.{named_in}
 use Rattle.list_exclusion.specs.Place.{exclusions_there}
 use Rattle.profile_records.specs.Layout.{layout_of}
 use Rattle.tree_vspt.proofs.Sequences.{domain-inside, area-short, leg-for}
@@ -22,7 +23,7 @@ domain_at-d-requires c =
 pub first_exrs-exrs-requires : goal.first_exrs-exrs-requires
 first_exrs-exrs-requires c =
     let a = c.args in
-    subst (λ (from : ℕ). Stretch a.include.now from (get_or a.q.named a.i 0)) (sym c.stretch_start.ensures) (c.requires.0.placed a.i c.requires.1)
+    subst (λ (from : ℕ). Stretch a.include.now from (named_in a.q.stops a.i)) (sym c.stretch_start.ensures) (c.requires.0.placed a.i c.requires.1)
 
 pub excludes_domain_there-excluded-requires : goal.excludes_domain_there-excluded-requires
 excludes_domain_there-excluded-requires c =
@@ -43,16 +44,15 @@ returns c =
     addresses a.starts.now a.firsts.now a.lasts.now tally laid _
     (record {
       from_made = refl;
-      to_made = c.next_domain-to.ensures;
+      to_made = c.next_domain.ensures;
       round_made = refl;
       stretch_made = c.first_exrs-exrs.ensures.0;
       carried_made =
           c.first_exrs-exrs.ensures.1
-          ∙ ap (λ (from : ℕ). carried_in a.include.now from (get_or a.q.named a.i 0)) c.stretch_start.ensures;
+          ∙ ap (λ (from : ℕ). carried_in a.include.now from (named_in a.q.stops a.i)) c.stretch_start.ensures;
       excluded_made =
           c.excludes_domain_there-excluded.ensures
           ∙ ap (excluded_domain (exclusions_there a.q.round lists _ _)) c.domain_at-d.ensures;
-      pinned_made = refl;
       pin_made = refl;
       first_made = refl;
       last_made = refl;

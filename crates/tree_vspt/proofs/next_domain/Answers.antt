@@ -4,8 +4,8 @@ use mathlib.Core.Bool.{Bool}
 use native.Mathlib.Numerals.{add-one}
 use native.Mathlib.Omega.{arith}
 use Prim.Native.Nat.{ℕ, suc}
-use lib.ListN.{get_or}
 use borrow.Author.Tests.{lt-ltb, le-ltb}
+use Rattle.laws.specs.Stops.{stop_at}
 use Rattle.tree_vspt.specs.Leg.{next_if}
 use Rattle.tree_vspt.proofs.next_domain.Goals as goal
 
@@ -13,10 +13,10 @@ pub returns-then-next-count : goal.returns-then-next-count
 returns-then-next-count c =
     let a = c.args in
     let e = lt-ltb (suc a.i) a.count (omega arith) in
-    ap (λ (n : ℕ). get_or a.domains n (record { 0 = 0 })) (add-one a.i ∙ sym (ap (λ (b : Bool). next_if b a.i) e))
+    ap (λ (n : ℕ). (stop_at a.stops.now n).domain) (add-one a.i ∙ sym (ap (λ (b : Bool). next_if b a.i) e))
 
 pub returns : goal.returns
 returns c =
     let a = c.args in
     let e = le-ltb (suc a.i) a.count (omega arith) in
-    ap (λ (n : ℕ). get_or a.domains n (record { 0 = 0 })) (sym (ap (λ (b : Bool). next_if b a.i) e))
+    ap (λ (n : ℕ). (stop_at a.stops.now n).domain) (sym (ap (λ (b : Bool). next_if b a.i) e))

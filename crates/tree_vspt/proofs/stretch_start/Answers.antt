@@ -3,15 +3,15 @@ use mathlib.Core.Path.{◌≡◌, refl, ap}
 use mathlib.Core.List.{List}
 use Prim.Native.Nat.{ℕ, zero, suc, ◌-◌}
 use native.Mathlib.Omega.{arith}
-use lib.ListN.{get_or}
-use Rattle.laws.specs.Stops.{stretch_start}
+use Rattle.model.specs.declared.NamedStop.{NamedStop}
+use Rattle.laws.specs.Stops.{named_in, stretch_start}
 use Rattle.tree_vspt.proofs.stretch_start.Goals as goal
 
-later : (named : List ℕ) (i : ℕ) → (i ≡ 0 → ⊥) → get_or named (i - 1) 0 ≡ stretch_start named i
-later named zero d = absurd (d refl)
-later named (suc i) d = let e : suc i - 1 ≡ i = omega arith in ap (λ (n : ℕ). get_or named n 0) e
+later : (stops : List NamedStop) (i : ℕ) → (i ≡ 0 → ⊥) → named_in stops (i - 1) ≡ stretch_start stops i
+later stops zero d = absurd (d refl)
+later stops (suc i) d = let e : suc i - 1 ≡ i = omega arith in ap (named_in stops) e
 
 pub returns : goal.returns
 returns c =
     let a = c.args in
-    later a.named a.i c.if-i-eq0.false
+    later a.stops.now a.i c.if-i-eq0.false
