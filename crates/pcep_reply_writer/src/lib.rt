@@ -9,7 +9,7 @@ ghost use Rattle.pcep_model.specs.Pcrep.{written_pcrep, apart};
 ghost use Rattle.pcep_reply_writer.specs.Lengths.{capped, route_length, message_length};
 ghost use Rattle.pcep_reply_writer.specs.Writing.{reply_of, malformed_reply, reply_verdict, Fits, WrittenReply};
 
-use crate::parts::{put_head, put_metrics, put_route};
+use crate::parts::{Metrics, put_head, put_metrics, put_route};
 use model::{Reason, Refusal, Verdict};
 use refusal::refuse_if;
 
@@ -42,22 +42,19 @@ fn out_of_range(values: &[u32]) -> bool
 }
 
 // The METRIC lists don't belong together, or the message is too long.
-fn malformed(size: usize, kinds: usize, flags: usize, values: usize) -> bool
-    ensures { result ≡ malformed_reply size kinds flags values }
+fn malformed(size: usize, metrics: Metrics) -> bool
+    ensures { result ≡ malformed_reply size (length metrics.entry.kinds.now) (length metrics.entry.flags.now) (length metrics.entry.values.now) }
 {
-    flags != kinds || values != kinds || 65535 < size
+    let count = metrics.kinds.len();
+    metrics.flags.len() != count || metrics.values.len() != count || 65535 < size
 }
 
 // 37, 21, then 34.
-fn reply_verdict(size: usize, kinds: usize, flags: usize, values: &[u32], room: usize) -> Verdict
-    ensures { result ≡ reply_verdict size kinds flags values.now room }
+fn reply_verdict(size: usize, metrics: Metrics, room: usize) -> Verdict
+    ensures { result ≡ reply_verdict size (length metrics.entry.kinds.now) (length metrics.entry.flags.now) metrics.entry.values.now room }
 {
-    refuse_if(
-        malformed(size, kinds, flags, values.len()),
-        Reason::WrongObject,
-        0,
-    )?;
-    refuse_if(out_of_range(values), Reason::FloatOutOfRange, 1)?;
+    refuse_if(malformed(size, metrics), Reason::WrongObject, 0)?;
+    refuse_if(out_of_range(metrics.values), Reason::FloatOutOfRange, 1)?;
     refuse_if(room < size, Reason::LittleRoom, 0)
 }
 
@@ -69,18 +66,16 @@ fn put_reply(
     addresses: &[u32],
     nature: u8,
     c: bool,
-    kinds: &[u8],
-    metric_flags: &[u8],
-    values: &[u32],
+    metrics: Metrics,
     out: &mut [u8],
     size: usize,
 ) -> usize
-    requires { Fits found addresses.now kinds.now metric_flags.now values.now out.old size }
-    ensures { Put 0 (written_pcrep (reply_of id flags found addresses.now nature c kinds.now metric_flags.now values.now)) out.old out.new result }
+    requires { Fits found addresses.now metrics.kinds.now metrics.flags.now metrics.values.now out.old size }
+    ensures { Put 0 (written_pcrep (reply_of id flags found addresses.now nature c metrics.entry.kinds.now metrics.entry.flags.now metrics.entry.values.now)) out.old out.new result }
 {
     let route = put_head(out, size as u16, flags, id);
-    let metrics = put_route(out, route, found, addresses, nature, c);
-    put_metrics(out, metrics, kinds, metric_flags, values)
+    let behind = put_route(out, route, found, addresses, nature, c);
+    put_metrics(out, behind, metrics)
 }
 
 // The message for a reply, for every input: 37, 21, 34, and then the bytes. On a refusal the buffer is untouched.
@@ -98,21 +93,13 @@ pub fn write_pcrep(
 ) -> Result<u32, Refusal>
     ensures { WrittenReply (reply_of id flags found addresses.now nature c kinds.now metric_flags.now values.now) (apart kinds.now metric_flags.now values.now) out.old out.new result }
 {
-    let count = kinds.len();
-    let size = message_length(found, addresses.len(), count);
-    reply_verdict(size, count, metric_flags.len(), values, out.len())?;
-    put_reply(
-        id,
-        flags,
-        found,
-        addresses,
-        nature,
-        c,
+    let metrics = Metrics {
         kinds,
-        metric_flags,
+        flags: metric_flags,
         values,
-        out,
-        size,
-    );
+    };
+    let size = message_length(found, addresses.len(), kinds.len());
+    reply_verdict(size, metrics, out.len())?;
+    put_reply(id, flags, found, addresses, nature, c, metrics, out, size);
     Ok(size as u32)
 }

@@ -120,17 +120,22 @@ fn put_metric(out: &mut [u8], at: usize, kind: u8, flags: u8, value: u32) -> usi
     at + 12
 }
 
+// Kind, flags and value of each METRIC, in three lists.
+#[derive(Clone, Copy)]
+pub struct Metrics<'a> {
+    pub kinds: &'a [u8],
+    pub flags: &'a [u8],
+    pub values: &'a [u32],
+}
+
 // The METRICs.
-pub fn put_metrics(
-    out: &mut [u8],
-    start: usize,
-    kinds: &[u8],
-    flags: &[u8],
-    values: &[u32],
-) -> usize
-    requires { (start + 12 * length kinds.now ≤ length out.old) × Together kinds.now flags.now values.now }
-    ensures { Put start (each written_metric (metrics_of kinds.now flags.now values.now)) out.old out.new result }
+pub fn put_metrics(out: &mut [u8], start: usize, metrics: Metrics) -> usize
+    requires { (start + 12 * length metrics.kinds.now ≤ length out.old) × Together metrics.kinds.now metrics.flags.now metrics.values.now }
+    ensures { Put start (each written_metric (metrics_of metrics.entry.kinds.now metrics.entry.flags.now metrics.entry.values.now)) out.old out.new result }
 {
+    let kinds = metrics.kinds;
+    let flags = metrics.flags;
+    let values = metrics.values;
     let mut at = start;
     for i in 0..kinds.len() {
         at = put_metric(out, at, kinds[i], flags[i], values[i]);

@@ -3,17 +3,17 @@ use Rattle.pcep_reply_writer.proofs.Message.{route-fits, metrics-fit, message_pu
 use borrow.Author.Rules.{rules}
 use Rattle.pcep_reply_writer.proofs.put_reply.Goals as goal
 
-pub put_route-metrics-requires : goal.put_route-metrics-requires
-put_route-metrics-requires c =
+pub put_route-behind-requires : goal.put_route-behind-requires
+put_route-behind-requires c =
     let a = c.args in
-    route-fits a.id a.flags a.found a.addresses.now a.nature a.c a.kinds.now a.metric_flags.now a.values.now a.size a.out.now c.requires _ _ c.put_head-route.ensures (search rules)
+    route-fits a.id a.flags a.found a.addresses.now a.nature a.c a.metrics.kinds.now a.metrics.flags.now a.metrics.values.now a.size a.out.now c.requires _ _ c.put_head-route.ensures (search rules)
 
 pub put_metrics-requires : goal.put_metrics-requires
 put_metrics-requires c =
     let a = c.args in
-    (metrics-fit a.id a.flags a.found a.addresses.now a.nature a.c a.kinds.now a.metric_flags.now a.values.now a.size a.out.now c.requires _ _ c.put_head-route.ensures _ _ c.put_route-metrics.ensures (search rules), c.requires.together)
+    (metrics-fit a.id a.flags a.found a.addresses.now a.nature a.c a.metrics.kinds.now a.metrics.flags.now a.metrics.values.now a.size a.out.now c.requires _ _ c.put_head-route.ensures _ _ c.put_route-behind.ensures (search rules), c.requires.together)
 
 pub returns : goal.returns
 returns c =
     let a = c.args in
-    message_put a.id a.flags a.found a.addresses.now a.nature a.c a.kinds.now a.metric_flags.now a.values.now a.size a.out.now c.requires _ _ c.put_head-route.ensures _ _ c.put_route-metrics.ensures _ _ c.put_metrics.ensures
+    message_put a.id a.flags a.found a.addresses.now a.nature a.c a.metrics.kinds.now a.metrics.flags.now a.metrics.values.now a.size a.out.now c.requires _ _ c.put_head-route.ensures _ _ c.put_route-behind.ensures _ _ c.put_metrics.ensures
