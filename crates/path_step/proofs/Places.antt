@@ -9,7 +9,7 @@ use lib.ListN.{length, drop, get_or, take-append-drop, length-take}
 use lib.Seq.{slice}
 use Rattle.model.specs.declared.Hop.{Hop}
 use Rattle.model.specs.Lists.{count_from, each}
-use Rattle.model.specs.Profile.{Layout, hops, cost_limit}
+use Rattle.model.specs.Profile.{Layout, cost_limit}
 use Rattle.model.specs.Sequence.{Stop}
 use Rattle.model.specs.Request.{Search}
 use Rattle.model.specs.Path.{Leg, legs, leg_at, no_leg}
@@ -25,7 +25,8 @@ use Rattle.tree_vspt.specs.Tree.{codes_from, WorkedOut}
 use Rattle.tree_vspt.proofs.Filled.{codes-long}
 use Rattle.tree_vspt.proofs.Next.{next-place-of}
 use Rattle.tree_vspt.proofs.Sequences.{stops-long, leg_of}
-use Rattle.path_step.specs.Worked.{Worked}
+use Rattle.path_step.specs.declared.WorkedTree.{WorkedTree}
+use Rattle.path_step.specs.Worked.{layout_in, Worked}
 
 -- ---- the numbers of a place
 
@@ -49,9 +50,32 @@ place-codes S L s addresses codes starts firsts lasts examined out i h =
 -- ---- a place of the query's sequence
 
 module _
-    (S : Search) (L : Layout) (s : List ℕ) (q : Query) (addresses codes starts firsts lasts : List ℕ)
-    (w : Worked S L s q addresses codes starts firsts lasts) (i : ℕ) (h : i < q.count)
+    (S : Search) (T : WorkedTree) (w : Worked S T) (i : ℕ) (h : i < T.query.count)
   where
+    abbrev L : Layout
+    L = layout_in T
+
+    abbrev s : List ℕ
+    s = T.profile.now
+
+    abbrev q : Query
+    q = T.query
+
+    abbrev addresses : List ℕ
+    addresses = T.addresses.now
+
+    abbrev codes : List ℕ
+    codes = T.reaches.now
+
+    abbrev starts : List ℕ
+    starts = T.starts.now
+
+    abbrev firsts : List ℕ
+    firsts = T.firsts.now
+
+    abbrev lasts : List ℕ
+    lasts = T.lasts.now
+
     long : length S.sequence ≡ q.count
     long = ap length w.sequence-is ∙ stops-long w.include q
 

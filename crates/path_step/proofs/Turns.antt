@@ -6,7 +6,6 @@ use mathlib.Core.List.{List, ◌∷◌, head?}
 use mathlib.Core.Option.{none, some}
 use Prim.Native.Nat.{ℕ, suc, ◌≤◌, ◌<◌}
 use native.Mathlib.Omega.{arith}
-use lib.Ieee.{Float}
 use lib.Seq.{slice, slice-cons, slice_empty}
 use Rattle.model.specs.declared.Hop.{Hop}
 use Rattle.model.specs.Lists.{keep_if, keep}
@@ -14,31 +13,31 @@ use Rattle.model.specs.Profile.{Layout, hop_count, hop_at, hops}
 use Rattle.model.specs.Floats.{at_least}
 use Rattle.laws.proofs.Records.{hop_at_lem, length-hops}
 use Rattle.laws.specs.Descent.{on_shortest}
-use Rattle.tree_reaches.specs.Reaches.{reach_of, beside}
-use Rattle.path_step.specs.declared.Heads.{Heads}
-use Rattle.path_step.specs.Onward.{is_wanted, is_taken}
+use Rattle.tree_reaches.specs.Reaches.{reach_of}
+use Rattle.path_step.specs.declared.Judge.{Judge}
+use Rattle.path_step.specs.Onward.{is_wanted, left_at, is_taken}
 
 -- ---- three tests
 
-module _ (asked : Float) (here : ℕ) (which : Heads) (nodes codes : List ℕ) (h : Hop) where
-  pub too_narrow : at_least asked h.bandwidth ≡ false → is_taken asked here which nodes codes h ≡ false
+module _ (by : Judge) (h : Hop) where
+  pub too_narrow : at_least by.asked h.bandwidth ≡ false → is_taken by h ≡ false
   too_narrow e =
-      ap (λ (b : Bool). b && (is_wanted which h.head.0 && on_shortest (reach_of here) h (reach_of (beside nodes codes h.head.0)))) e
+      ap (λ (b : Bool). b && (is_wanted by.which h.head.0 && on_shortest (reach_of by.here) h (reach_of (left_at by h.head.0)))) e
 
-  pub not_wanted : is_wanted which h.head.0 ≡ false → is_taken asked here which nodes codes h ≡ false
+  pub not_wanted : is_wanted by.which h.head.0 ≡ false → is_taken by h ≡ false
   not_wanted e =
-      ap (λ (b : Bool). at_least asked h.bandwidth && (b && on_shortest (reach_of here) h (reach_of (beside nodes codes h.head.0)))) e
-      ∙ and_none (at_least asked h.bandwidth)
+      ap (λ (b : Bool). at_least by.asked h.bandwidth && (b && on_shortest (reach_of by.here) h (reach_of (left_at by h.head.0)))) e
+      ∙ and_none (at_least by.asked h.bandwidth)
     where
       and_none : (b : Bool) → b && false ≡ false
       and_none true = refl
       and_none false = refl
 
   pub costs-decide
-      : at_least asked h.bandwidth ≡ true → is_wanted which h.head.0 ≡ true
-      → is_taken asked here which nodes codes h ≡ on_shortest (reach_of here) h (reach_of (beside nodes codes h.head.0))
+      : at_least by.asked h.bandwidth ≡ true → is_wanted by.which h.head.0 ≡ true
+      → is_taken by h ≡ on_shortest (reach_of by.here) h (reach_of (left_at by h.head.0))
   costs-decide e f =
-      ap₂ (λ (b w : Bool). b && (w && on_shortest (reach_of here) h (reach_of (beside nodes codes h.head.0)))) e f
+      ap₂ (λ (b w : Bool). b && (w && on_shortest (reach_of by.here) h (reach_of (left_at by h.head.0)))) e f
 
 -- ---- one turn
 

@@ -1,16 +1,16 @@
 // The hop record by which a shortest path goes on from an entry: the first, by ascending head, whose cost with what is left at its head is what is left here.
 #![tactic(auto)]
 
-ghost use Rattle.std.specs.Prelude.{◌≡◌, true, false, ◌≤◌, ◌<◌};
+ghost use Rattle.std.specs.Prelude.{◌≡◌, true, ◌≤◌, ◌<◌};
 ghost use Rattle.std.proofs.Math.Seq.{slice};
 ghost use Rattle.model.specs.Floats.{in_range};
 ghost use Rattle.model.specs.Profile.{hops, hop_count, cost_limit};
 ghost use Rattle.model.specs.Request.{Search};
 ghost use Rattle.laws.specs.Descent.{on_shortest};
 ghost use Rattle.profile_records.specs.Layout.{layout_of, RightProfile};
-ghost use Rattle.tree_reaches.specs.Reaches.{unreachable, reach_of, Small, beside, NextPlace};
+ghost use Rattle.tree_reaches.specs.Reaches.{unreachable, reach_of, Small};
 ghost use Rattle.path_step.specs.Worked.{Worked, Stands, Ways};
-ghost use Rattle.path_step.specs.Onward.{is_wanted, is_taken, no_hop, FirstTaken, OnwardIs};
+ghost use Rattle.path_step.specs.Onward.{is_wanted, Fit, is_taken, onward, onward_if, FirstTaken, OnwardIs};
 
 use model::{Hop, NodeAddress};
 use profile_hop_range::{HopRange, tail_range};
@@ -20,8 +20,21 @@ use request::Query;
 use tree_reaches::{UNREACHABLE, reach_of};
 use tree_vspt::next_domain;
 
-// Which heads are wanted.
+// What a path is found by, the same at every place of the sequence: the profile, the query, and the tree that was worked out for it.
 #[derive(Clone, Copy)]
+pub struct WorkedTree<'a> {
+    pub profile: &'a [u8],
+    pub layout: Layout,
+    pub query: Query,
+    pub addresses: &'a [u32; 242],
+    pub reaches: &'a [u32; 242],
+    pub starts: &'a [usize; 18],
+    pub firsts: &'a [usize; 16],
+    pub lasts: &'a [usize; 16],
+}
+
+// Which heads are wanted.
+#[derive(Clone, Copy, Debug, PartialEq, Eq)]
 pub enum Heads {
     Any,
     Only(NodeAddress),
@@ -29,21 +42,22 @@ pub enum Heads {
 }
 
 // The head of the hop record found, and what is left there.
-#[derive(Clone, Copy)]
+#[derive(Clone, Copy, Debug, PartialEq, Eq)]
 pub struct Onward {
-    pub found: bool,
     pub head: NodeAddress,
     pub reach: u32,
 }
 
-fn nowhere() -> Onward
-    ensures { result ≡ no_hop }
-{
-    Onward {
-        found: false,
-        head: NodeAddress(0),
-        reach: UNREACHABLE,
-    }
+// What a hop record is judged by: the bandwidth asked for, what is left at its tail, the heads that are wanted, and the next place's part of the tree.
+#[derive(Clone, Copy)]
+struct Judge<'a> {
+    asked: f32,
+    here: u32,
+    which: Heads,
+    addresses: &'a [u32],
+    reaches: &'a [u32],
+    from: usize,
+    to: usize,
 }
 
 fn wanted(which: Heads, head: NodeAddress) -> bool
@@ -51,8 +65,8 @@ fn wanted(which: Heads, head: NodeAddress) -> bool
 {
     match which {
         Heads::Any => true,
-        Heads::Only(y) => head.0 == y.0,
-        Heads::Above(y) => y.0 < head.0,
+        Heads::Only(y) => head == y,
+        Heads::Above(y) => y < head,
     }
 }
 
@@ -68,107 +82,70 @@ fn on_shortest(h: Hop, here: u32, there: u32) -> bool
 }
 
 // One hop record, if it is taken.
-fn tried(
-    h: Hop,
-    asked: f32,
-    here: u32,
-    which: Heads,
-    addresses: &[u32],
-    reaches: &[u32],
-    from: usize,
-    to: usize,
-) -> Onward
-    requires cost_le_cost_limit { (h.cost ≤ cost_limit) × (in_range asked ≡ true) × (in_range h.bandwidth ≡ true) × (here < unreachable) }
-    requires next_place { NextPlace addresses.now reaches.now from to }
-    ensures found_value { result.found ≡ is_taken asked here which (slice from to addresses.now) (slice from to reaches.now) h }
-    ensures head_value { (result.found ≡ true → (h.head ≡ result.head) × (result.reach ≡ beside (slice from to addresses.now) (slice from to reaches.now) h.head.0)) × (result.found ≡ false → result ≡ no_hop) }
+fn tried(h: Hop, by: Judge<'_>) -> Option<Onward>
+    requires cost_le_cost_limit { (h.cost ≤ cost_limit) × (in_range h.bandwidth ≡ true) }
+    requires fit { Fit by }
+    ensures { result ≡ onward_if (is_taken by.entry h) (onward by.entry h) }
 {
     let head = h.head;
-    if !wanted(which, head) {
-        return nowhere();
+    if !wanted(by.which, head) {
+        return None;
     }
-    if !(asked <= h.bandwidth) {
-        return nowhere();
+    if !(by.asked <= h.bandwidth) {
+        return None;
     }
-    let reach = reach_of(addresses, reaches, from, to, head);
-    if !on_shortest(h, here, reach) {
-        return nowhere();
+    let reach = reach_of(by.addresses, by.reaches, by.from, by.to, head);
+    if !on_shortest(h, by.here, reach) {
+        return None;
     }
-    Onward {
-        found: true,
-        head,
-        reach,
-    }
+    Some(Onward { head, reach })
 }
 
 // The first of some hop records that is taken.
-fn scan(
-    s: &[u8],
-    layout: Layout,
-    range: HopRange,
-    asked: f32,
-    here: u32,
-    which: Heads,
-    addresses: &[u32],
-    reaches: &[u32],
-    from: usize,
-    to: usize,
-) -> Onward
+fn scan(s: &[u8], layout: Layout, range: HopRange, by: Judge<'_>) -> Option<Onward>
     requires right_profile { RightProfile (layout_of layout) s.now }
-    requires first_le_last { (range.first ≤ range.last) × (range.last ≤ hop_count s.now) × (in_range asked ≡ true) × (here < unreachable) }
-    requires next_place { NextPlace addresses.now reaches.now from to }
-    ensures { FirstTaken asked here which (slice from to addresses.now) (slice from to reaches.now) (slice range.first range.last (hops (layout_of layout) s.now)) result }
+    requires first_le_last { (range.first ≤ range.last) × (range.last ≤ hop_count s.now) }
+    requires fit { Fit by }
+    ensures { FirstTaken by.entry (slice range.first range.last (hops (layout_of layout) s.now)) result }
 {
-    let mut i = range.first;
-    let last = range.last;
-    while i < last {
-        let h = accepted_hop(s, layout, i);
-        let step = tried(h, asked, here, which, addresses, reaches, from, to);
-        if step.found {
-            return step;
+    for i in range.first..range.last {
+        let on = tried(accepted_hop(s, layout, i), by);
+        if on.is_some() {
+            return on;
         }
-        i += 1;
     }
-    nowhere()
+    None
 }
 
 // The first wanted hop on a shortest way from a node at place i of the sequence, from which `here` is left.
 pub fn next_hop(
-    s: &[u8],
-    layout: Layout,
-    q: Query,
+    tree: &WorkedTree<'_>,
     i: usize,
     node: NodeAddress,
     here: u32,
     which: Heads,
-    addresses: &[u32; 242],
-    reaches: &[u32; 242],
-    starts: &[usize; 18],
-    firsts: &[usize; 16],
-    lasts: &[usize; 16],
-) -> Onward
-    requires { (i < q.count) × Ways (layout_of layout) s.now q addresses.now reaches.now starts.now firsts.now lasts.now i node.0 here }
-    ensures { (S : Search) → Worked S (layout_of layout) s.now q addresses.now reaches.now starts.now firsts.now lasts.now → Stands S i node.0 here → OnwardIs S i node.0 which result }
+) -> Option<Onward>
+    requires { (i < tree.now.query.count) × Ways tree.now i node.0 here }
+    ensures { (S : Search) → Worked S tree.now → Stands S i node.0 here → OnwardIs S i node.0 which result }
 {
-    let domains = q.domains;
-    let from = domains[i];
-    let to = next_domain(domains, q.count, i);
+    let profile = tree.profile;
+    let addresses = tree.addresses;
+    let reaches = tree.reaches;
+    let from = tree.query.stops[i].domain;
+    let to = next_domain(&tree.query.stops, tree.query.count, i);
     let pair = HopRange {
-        first: firsts[i],
-        last: lasts[i],
+        first: tree.firsts[i],
+        last: tree.lasts[i],
     };
-    let range = tail_range(s, layout, pair, from, to, node);
-    let asked = q.limits.bandwidth;
-    scan(
-        s,
-        layout,
-        range,
-        asked,
+    let range = tail_range(profile, tree.layout, pair, from, to, node);
+    let by = Judge {
+        asked: tree.query.limits.bandwidth,
         here,
         which,
         addresses,
         reaches,
-        starts[i + 1],
-        starts[i + 2],
-    )
+        from: tree.starts[i + 1],
+        to: tree.starts[i + 2],
+    };
+    scan(profile, tree.layout, range, by)
 }

@@ -1,105 +1,61 @@
--- `path_step::scan` meets its contract. The loop's invariant: the first of all that is taken is the first of those from i on. The measure is what is left of the range.
-use mathlib.Core.Path.{◌≡◌, refl, sym, ap, ◌∙◌}
-use mathlib.Core.List.{head?}
-use Prim.Native.Nat.{ℕ, ◌<◌, ◌-◌}
+-- `path_step::scan` meets its contract. The loop's invariant: the first of all that is taken is the first of those from i on.
+use mathlib.Core.Path.{◌≡◌, refl, sym, ap, subst, ◌∙◌}
+use mathlib.Core.Bool.{Bool, true, false}
+use mathlib.Core.List.{List, head?}
+use mathlib.Core.Option.{some}
+use Prim.Native.Nat.{ℕ}
 use native.Mathlib.Numerals.{add-one}
 use native.Mathlib.Omega.{arith}
 use lib.Seq.{slice}
+use Rattle.std.specs.Prelude.{Option, is_some}
 use Rattle.model.specs.declared.Hop.{Hop}
 use Rattle.model.specs.Lists.{keep}
-use Rattle.model.specs.Profile.{hop_count, hop_at, hops}
-use Rattle.laws.proofs.BigEndian.{number_bound}
-use Rattle.laws.proofs.Tests.{clash}
+use Rattle.model.specs.Profile.{hop_at, hops}
 use Rattle.profile_records.specs.Layout.{layout_of}
-use Rattle.tree_reaches.specs.Reaches.{beside}
+use Rattle.path_step.specs.declared.Judge.{Judge}
 use Rattle.path_step.specs.declared.Onward.{Onward}
-use Rattle.path_step.specs.Onward.{is_taken}
+use Rattle.path_step.specs.Onward.{is_taken, onward, onward_if, FirstTaken}
 use Rattle.path_step.proofs.Turns.{first_here, first_later, first_of_none}
 use Rattle.path_step.proofs.scan.Goals as goal
-use Rattle.path_step.proofs.scan.Goals.{After-tried-step, In-loop-i}
+use Rattle.path_step.proofs.scan.Goals.{After-tried-on}
 
-pub loop-i-init : goal.loop-i-init
-loop-i-init c = (omega arith, refl)
+-- what is gone on by is told only of a record that is taken
+told : (b : Bool) (on : Onward) (r : Option Onward) → r ≡ onward_if b on → is_some r ≡ b
+told true on r e = ap is_some e
+told false on r e = ap is_some e
 
--- the record looked at is one of the file
-inside : (c : In-loop-i) → c.loop-i.i < hop_count c.args.s.now
-inside c = omega arith
+-- the record looked at, where it is taken, is the first
+found
+    : (by : Judge) (hs : List Hop) (h : Hop) (r : Option Onward)
+    → r ≡ onward_if (is_taken by h) (onward by h) → is_taken by h ≡ true → head? (keep (is_taken by) hs) ≡ some h → FirstTaken by hs r
+found by hs h r e t f =
+    subst (FirstTaken by hs) (sym (e ∙ ap (λ (b : Bool). onward_if b (onward by h)) t)) (record { hop = h; first = f; is = refl })
 
-pub accepted_hop-h-requires : goal.accepted_hop-h-requires
-accepted_hop-h-requires c = (c.requires.right_profile, inside (goal.at.accepted_hop-h-requires c).In-loop-i)
+-- whether it is taken
+looked : (c : After-tried-on) → c.tried-on.result ≡ onward_if (is_taken c.args.by (hop_at (layout_of c.args.layout) c.args.s.now c.loop-i.i)) (onward c.args.by (hop_at (layout_of c.args.layout) c.args.s.now c.loop-i.i))
+looked c = c.tried-on.ensures ∙ ap (λ (h : Hop). onward_if (is_taken c.args.by h) (onward c.args.by h)) c.accepted_hop.ensures.is
 
-pub tried-step-requires : goal.tried-step-requires
-tried-step-requires c =
-    let hop = c.accepted_hop-h.ensures in
-    record {
-      cost_le_cost_limit = (hop.cheap, c.requires.first_le_last.2, hop.ranged, c.requires.first_le_last.3);
-      next_place = c.requires.next_place;
-    }
-
--- whether the record looked at passes the test of the scan
-looked
-    : (c : After-tried-step)
-    → (let a = c.args in
-    c.tried-step.result.found
-    ≡ is_taken a.asked a.here a.which (slice a.from a.to a.addresses.now) (slice a.from a.to a.reaches.now) (hop_at (layout_of a.layout) a.s.now c.loop-i.i))
-looked c =
+pub returns-then-is_some : goal.returns-then-is_some
+returns-then-is_some c =
     let a = c.args in
-    let passes = is_taken a.asked a.here a.which (slice a.from a.to a.addresses.now) (slice a.from a.to a.reaches.now) in
-    c.tried-step.ensures.found_value ∙ ap passes c.accepted_hop-h.ensures.is
-
-pub returns-then-step : goal.returns-then-step
-returns-then-step c =
-    let a = c.args in
-    let passes = is_taken a.asked a.here a.which (slice a.from a.to a.addresses.now) (slice a.from a.to a.reaches.now) in
-    let l = c.loop-i in
-    let t = c.tried-step.ensures.head_value.0 c.if-step.true in
-    let is = c.accepted_hop-h.ensures.is in
-    record {
-      there =
-          λ e. (
-            hop_at (layout_of a.layout) a.s.now l.i,
-            l.invariant.1
-                ∙ first_here passes (layout_of a.layout) a.s.now l.i a.range.last (omega arith) (omega arith)
-                (sym (looked (goal.at.returns-then-step c).After-tried-step) ∙ c.if-step.true),
-            sym (ap (λ (x : Hop). x.head) is) ∙ t.0,
-            t.1
-                ∙ ap (λ (x : Hop). beside (slice a.from a.to a.addresses.now) (slice a.from a.to a.reaches.now) x.head.0) is,
-          );
-      missing = λ e. clash c.if-step.true e;
-      nothing_else = λ e. clash c.if-step.true e;
-    }
-
-pub overflow_add-i : goal.overflow_add-i
-overflow_add-i c =
-    let known = c in
-    let k = inside (goal.at.overflow_add-i c).In-loop-i in
-    let few = number_bound 2 c.args.s.now 8 (λ (n : ℕ). (c.type_inv.s n).fits) in
-    omega arith
+    let h = hop_at (layout_of a.layout) a.s.now c.loop-i.i in
+    let is = looked (goal.at.returns-then-is_some c).After-tried-on in
+    let t = sym (told (is_taken a.by h) (onward a.by h) _ is) ∙ sym c.is_some.ensures ∙ c.if-is_some.true in
+    found a.by _ h _ is t (c.loop-i.invariant ∙ first_here (is_taken a.by) (layout_of a.layout) a.s.now c.loop-i.i a.range.last (omega arith) (omega arith) t)
 
 pub loop-i-preserved : goal.loop-i-preserved
 loop-i-preserved c =
     let a = c.args in
-    let passes = is_taken a.asked a.here a.which (slice a.from a.to a.addresses.now) (slice a.from a.to a.reaches.now) in
-    let l = c.loop-i in (
-      omega arith,
-      rw add-one
-          (l.invariant.1
-          ∙ first_later passes (layout_of a.layout) a.s.now l.i a.range.last (omega arith) (omega arith)
-          (sym (looked (goal.at.loop-i-preserved c).After-tried-step) ∙ c.if-step.false)),
-    )
+    let h = hop_at (layout_of a.layout) a.s.now c.loop-i.i in
+    let is = looked (goal.at.loop-i-preserved c).After-tried-on in
+    let f = sym (told (is_taken a.by h) (onward a.by h) _ is) ∙ sym c.is_some.ensures ∙ c.if-is_some.false in
+    rw add-one
+    (c.loop-i.invariant ∙ first_later (is_taken a.by) (layout_of a.layout) a.s.now c.loop-i.i a.range.last (omega arith) (omega arith) f)
 
 pub returns : goal.returns
 returns c =
     let a = c.args in
-    let passes = is_taken a.asked a.here a.which (slice a.from a.to a.addresses.now) (slice a.from a.to a.reaches.now) in
-    let l = c.loop-i in
-    let e : l.i ≡ a.range.last = omega arith in
-    record {
-      there = λ t. clash t (ap (λ (r : Onward). r.found) c.nowhere.ensures);
-      missing =
-          λ f.
-          l.invariant.1
-          ∙ ap (λ (n : ℕ). head? (keep passes (slice n a.range.last (hops (layout_of a.layout) a.s.now)))) e
-          ∙ first_of_none passes (layout_of a.layout) a.s.now a.range.last;
-      nothing_else = λ f. c.nowhere.ensures;
-    }
+    let e : c.loop-i.i ≡ a.range.last = omega arith in
+    c.loop-i.invariant
+    ∙ ap (λ (n : ℕ). head? (keep (is_taken a.by) (slice n a.range.last (hops (layout_of a.layout) a.s.now)))) e
+    ∙ first_of_none (is_taken a.by) (layout_of a.layout) a.s.now a.range.last

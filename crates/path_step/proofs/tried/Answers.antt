@@ -1,75 +1,57 @@
 -- `path_step::tried` meets its contract: the three tests of a hop record, in the code's order; the machine's comparison of the bandwidths is that of exact values.
-use mathlib.Core.Path.{◌≡◌, refl, sym, ap, ◌∙◌}
-use mathlib.Core.Bool.{Bool, true, false, true≢false}
-use Prim.Native.Nat.{ℕ}
+use mathlib.Core.Path.{◌≡◌, sym, ap, ◌∙◌}
+use mathlib.Core.Bool.{Bool, false}
 use borrow.Author.Rules.{rules}
-use lib.Ieee.{le}
-use lib.Seq.{slice}
-use Rattle.model.specs.Floats.{at_least}
+use Prim.Native.Nat.{ℕ}
+use Rattle.std.specs.Prelude.{Option, Some, None}
+use Rattle.model.specs.declared.Hop.{Hop}
 use Rattle.laws.proofs.BoundExact.{bandwidth_exact}
 use Rattle.laws.specs.Descent.{on_shortest}
-use Rattle.laws.proofs.Tests.{clash}
 use Rattle.tree_reaches.specs.Reaches.{reach_of}
+use Rattle.path_step.specs.declared.Judge.{Judge}
 use Rattle.path_step.specs.declared.Onward.{Onward}
-use Rattle.path_step.specs.Onward.{is_taken, no_hop}
+use Rattle.path_step.specs.Onward.{is_taken, onward, onward_if}
 use Rattle.path_step.proofs.Turns.{too_narrow, not_wanted, costs-decide}
 use Rattle.path_step.proofs.tried.Goals as goal
-use Rattle.path_step.proofs.tried.Goals.{After-on_shortest, After-struct_known-1}
+use Rattle.path_step.proofs.tried.Goals.{After-on_shortest}
 
--- the machine's comparison is that of exact values
-exact
-    : (c : After-struct_known-1)
-    → (let a = c.args in le a.asked a.h.bandwidth ≡ at_least a.asked a.h.bandwidth)
-exact c =
-    let start = c in
-    bandwidth_exact c.args.asked c.args.h.bandwidth (search rules) (search rules) c.requires.cost_le_cost_limit.1 c.requires.cost_le_cost_limit.2
-
--- nothing is found
-missed : {P : Type 0} {r : Onward} {taken : Bool} → r ≡ no_hop → taken ≡ false → (r.found ≡ taken) × ((r.found ≡ true → P) × (r.found ≡ false → r ≡ no_hop))
-missed e g = let f = ap (λ (r : Onward). r.found) e in (f ∙ sym g, (λ t. clash t f, λ n. e))
+-- not taken
+passed_over : (by : Judge) (h : Hop) → is_taken by h ≡ false → None ≡ onward_if (is_taken by h) (onward by h)
+passed_over by h e = sym (ap (λ (b : Bool). onward_if b (onward by h)) e)
 
 pub returns-then-not-wanted : goal.returns-then-not-wanted
 returns-then-not-wanted c =
-    let a = c.args in
-    let both = missed c.nowhere.ensures
-    (not_wanted a.asked a.here a.which (slice a.from a.to a.addresses.now) (slice a.from a.to a.reaches.now) a.h
-    (sym c.wanted.ensures ∙ c.if-not-wanted.true)) in
-    record { found_value = both.0; head_value = both.1 }
+    let by = c.args.by in
+    passed_over by c.args.h (not_wanted by c.args.h (sym c.wanted.ensures ∙ c.if-not-wanted.true))
 
-pub returns-then-not-asked-h : goal.returns-then-not-asked-h
-returns-then-not-asked-h c =
-    let a = c.args in
-    let both = missed c.nowhere-then-not-asked-h.ensures
-    (too_narrow a.asked a.here a.which (slice a.from a.to a.addresses.now) (slice a.from a.to a.reaches.now) a.h
-    (sym (exact (goal.at.returns-then-not-asked-h c).After-struct_known-1) ∙ c.if-not-asked-h.true)) in
-    record { found_value = both.0; head_value = both.1 }
+pub returns-then-not-by-h : goal.returns-then-not-by-h
+returns-then-not-by-h c =
+    let by = c.args.by in
+    let known = c in
+    let exact = bandwidth_exact by.asked c.args.h.bandwidth (search rules) (search rules) c.requires.fit.bandwidth-right c.requires.cost_le_cost_limit.1 in
+    passed_over by c.args.h (too_narrow by c.args.h (sym exact ∙ c.if-not-by-h.true))
 
 pub on_shortest-requires : goal.on_shortest-requires
 on_shortest-requires c =
-    let start = c in
-    (c.requires.cost_le_cost_limit.0, rw c.reach_of-reach.ensures (c.requires.next_place.small c.args.h.head.0), c.requires.cost_le_cost_limit.3)
+    (c.requires.cost_le_cost_limit.0, rw c.reach_of-reach.ensures (c.requires.fit.next_place.small c.args.h.head.0), c.requires.fit.reached)
 
 -- the tests before the cost hold
-decided : (c : After-on_shortest) → c.on_shortest.result ≡ (let a = c.args in is_taken a.asked a.here a.which (slice a.from a.to a.addresses.now) (slice a.from a.to a.reaches.now) a.h)
+decided : (c : After-on_shortest) → c.on_shortest.result ≡ is_taken c.args.by c.args.h
 decided c =
-    let a = c.args in
-    let enough = sym (exact (goal.at.After-on_shortest c).After-struct_known-1) ∙ c.if-not-asked-h.false in
-    let is-wanted = sym c.wanted.ensures ∙ c.if-not-wanted.false in
+    let by = c.args.by in
+    let known = c in
+    let exact = bandwidth_exact by.asked c.args.h.bandwidth (search rules) (search rules) c.requires.fit.bandwidth-right c.requires.cost_le_cost_limit.1 in
     c.on_shortest.ensures
-    ∙ ap (λ (n : ℕ). on_shortest (reach_of a.here) a.h (reach_of n)) c.reach_of-reach.ensures
-    ∙ sym
-    (costs-decide a.asked a.here a.which (slice a.from a.to a.addresses.now) (slice a.from a.to a.reaches.now) a.h
-    enough is-wanted)
+    ∙ ap (λ (n : ℕ). on_shortest (reach_of by.here) c.args.h (reach_of n)) c.reach_of-reach.ensures
+    ∙ sym (costs-decide by c.args.h (sym exact ∙ c.if-not-by-h.false) (sym c.wanted.ensures ∙ c.if-not-wanted.false))
 
 pub returns-then-not-on_shortest : goal.returns-then-not-on_shortest
 returns-then-not-on_shortest c =
-    let both = missed c.nowhere-then-not-on_shortest.ensures (sym (decided (goal.at.returns-then-not-on_shortest c).After-on_shortest) ∙ c.if-not-on_shortest.true) in
-    record { found_value = both.0; head_value = both.1 }
+    passed_over c.args.by c.args.h (sym (decided (goal.at.returns-then-not-on_shortest c).After-on_shortest) ∙ c.if-not-on_shortest.true)
 
 pub returns : goal.returns
 returns c =
-    let taken = c.if-not-on_shortest.false in
-    record {
-      found_value = sym taken ∙ decided (goal.at.returns c).After-on_shortest;
-      head_value = (λ t. (refl, c.reach_of-reach.ensures), λ f. absurd (true≢false f));
-    }
+    let by = c.args.by in
+    let h = c.args.h in
+    ap {B = Option Onward} (λ (n : ℕ). Some (record { head = h.head; reach = n })) c.reach_of-reach.ensures
+    ∙ sym (ap (λ (b : Bool). onward_if b (onward by h)) (sym (decided (goal.at.returns c).After-on_shortest) ∙ c.if-not-on_shortest.false))
