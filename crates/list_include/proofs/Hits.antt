@@ -1,5 +1,5 @@
 -- A scan that counts the indexes that pass a test and remembers the last: where it starts, what one more index does, and what it has found at the end.
-use mathlib.Core.Path.{◌≡◌, refl, sym, ap, subst, ◌∙◌}
+use mathlib.Core.Path.{◌≡◌, refl, sym, ap, ◌∙◌}
 use mathlib.Core.Bool.{Bool, true, false, ◌&&◌}
 use mathlib.Core.List.{List, [], ◌∷◌, ◌++◌, append-nil}
 use Prim.Native.Nat.{ℕ, zero, suc, ◌+◌, ◌≤◌, ◌<◌}
@@ -8,11 +8,10 @@ use native.Mathlib.Numerals.{add-one}
 use native.Mathlib.Omega.{arith}
 use lib.ListN.{length, length-append}
 use lib.Dec.{eqb}
-use borrow.Author.Tests.{eq-eqb, ne_eqb}
 use Rattle.model.specs.Lists.{count_from, keep, keep_if}
 use Rattle.model.specs.declared.Domain.{Domain}
-use Rattle.model.specs.Bytes.{number, part}
-use Rattle.model.specs.Profile.{domain_at, domain_count, domain_start, domains}
+use Rattle.model.specs.Bytes.{part}
+use Rattle.model.specs.Profile.{domain_at, domain_count, domains}
 use Rattle.model.specs.Subobject.{Area}
 use Rattle.model.specs.Sequence.{no_domain, domain_of, has_area, of_system, of_area}
 use Rattle.laws.proofs.Lists.{keep_append, keep_agree, count_from_mem}
@@ -98,22 +97,6 @@ module _ (p : ℕ → Bool) where
 -- ---- the domains that `model` names are those that a scan of the records finds
 
 module _ (s : List ℕ) where
-  -- the AS of a record, from the number that stands at its start
-  pub system-read : (n i x : ℕ) → x ≡ number 4 s (domain_start i) → x ≡ n → system_is s n i ≡ true
-  unfolding domain_at
-  system-read n i x e q = eq-eqb _ n (sym e ∙ q)
-
-  pub system-other : (n i x : ℕ) → x ≡ number 4 s (domain_start i) → (x ≡ n → ⊥) → system_is s n i ≡ false
-  unfolding domain_at
-  system-other n i x e q = ne_eqb _ n (λ r. q (e ∙ r))
-
-  -- a record of another AS hasn't the area; one of the AS has it where its area is the one
-  pub area-other : (n i : ℕ) (a : Area) (d : Domain) → d ≡ domain_at s i → (d.asn ≡ n → ⊥) → false ≡ area_is s n a i
-  area-other n i a d e q = subst (λ (x : Domain). false ≡ (eqb x.asn n && has_area a x)) e (rw (ne_eqb d.asn n q) refl)
-
-  pub area_here : (n i : ℕ) (a : Area) (d : Domain) → d ≡ domain_at s i → d.asn ≡ n → has_area a d ≡ area_is s n a i
-  area_here n i a d e q = sym (ap (λ (b : Bool). b && has_area a d) (eq-eqb d.asn n q)) ∙ ap (λ (x : Domain). eqb x.asn n && has_area a x) e
-
   scanned : (p : Domain → Bool) → keep (λ (d : ℕ). p (domain_of (domains s) d)) (count_from 0 (length (domains s))) ≡ keep (λ (d : ℕ). p (domain_at s d)) (count_from 0 (domain_count s))
   scanned p =
       ap (λ (n : ℕ). keep (λ (d : ℕ). p (domain_of (domains s) d)) (count_from 0 n)) (length-domains s)

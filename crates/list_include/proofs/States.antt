@@ -211,17 +211,6 @@ still-sound st st' c d sound =
       stops-long = ap length (sym d) ∙ sound.stops-long;
     }
 
--- another AS: all else stays
-pub with_system_lem : (list : List ℕ) (at : ℕ) (st : State) (asn : ℕ) → SoundState st → Standing list at st
-    → StateIs list at (record { asn = asn; count = st.count; stops = st.stops; node = st.node; waiting = st.waiting }) (M.with_system (state_of list at st) asn)
-unfolding stops_of
-with_system_lem list at st asn sound standing =
-    record {
-      means = refl;
-      sound = still-sound st _ refl refl sound;
-      standing = record { placed = standing.placed; behind = standing.behind; pin_is = standing.pin_is; left_is = standing.left_is };
-    }
-
 -- ---- something more waits, and the reading goes on past it
 
 left_snoc : (w : List M.Waiting) (at : ℕ) (what : M.Waits) → left_or (left_by w) (M.left_over what) at ≡ left_by (w ++ (M.waiting_for at what ∷ []))

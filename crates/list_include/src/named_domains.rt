@@ -1,5 +1,6 @@
 // The domains of a profile that a subobject can mean.
-ghost use Rattle.std.specs.Prelude.{◌≡◌, ◌+◌, ◌≤◌, length};
+ghost use Rattle.std.specs.Prelude.{◌≡◌, ℕ, Bool, ◌+◌, ◌≤◌, ◌<◌, length};
+ghost use Rattle.model.specs.Lists.{count_from, keep};
 ghost use Rattle.model.specs.Bytes.{part};
 ghost use Rattle.model.specs.Profile.{domains, domain_at, domain_start};
 ghost use Rattle.model.specs.Sequence.{of_system, of_area};
@@ -35,23 +36,31 @@ fn told(hits: usize, last: usize) -> NamedDomain
     NamedDomain::Several
 }
 
+// Which of the domains below `n` pass a test.
+fn scan<F: Fn(usize) -> bool>(n: usize, test: F) -> NamedDomain
+    requires few { n ≤ 64 }
+    requires each { (i : ℕ) → i < n → F.pre test i }
+    ensures { (p : ℕ → Bool) → ((i : ℕ) (b : Bool) → i < n → F.post test i b → b ≡ p i) → result ≡ found_of (keep p (count_from 0 n)) }
+{
+    let mut hits: usize = 0;
+    let mut last: usize = 0;
+    for i in 0..n {
+        if test(i) {
+            hits += 1;
+            last = i;
+        }
+    }
+    told(hits, last)
+}
+
 // The domains of an AS.
 pub fn of_system(profile: &[u8], asn: u32) -> NamedDomain
     requires { WholeDomains profile.now }
     ensures { result ≡ found_of (of_system (domains profile.now) asn) }
 {
-    let n = domain_count(profile) as usize;
-    let mut hits: usize = 0;
-    let mut last: usize = 0;
-    let mut i: usize = 0;
-    while i < n {
-        if u32_at(profile, 12 + 20 * i) == asn {
-            hits += 1;
-            last = i;
-        }
-        i += 1;
-    }
-    told(hits, last)
+    scan(domain_count(profile) as usize, |i| {
+        u32_at(profile, 12 + 20 * i) == asn
+    })
 }
 
 // The domains of an AS that have the area of this kind whose bytes are the `count` bytes of the list from `start` on.
@@ -66,18 +75,9 @@ pub fn of_area(
     requires { WholeDomains profile.now × ShortAreas profile.now × (start + count ≤ length list.now) }
     ensures { result ≡ found_of (of_area (domains profile.now) asn (record { kind = kind; bytes = part list.now start count })) }
 {
-    let n = domain_count(profile) as usize;
-    let mut hits: usize = 0;
-    let mut last: usize = 0;
-    let mut i: usize = 0;
-    while i < n {
-        if names(profile, i, asn, list, kind, start, count) {
-            hits += 1;
-            last = i;
-        }
-        i += 1;
-    }
-    told(hits, last)
+    scan(domain_count(profile) as usize, |i| {
+        names(profile, i, asn, list, kind, start, count)
+    })
 }
 
 // A domain record is of this AS and has this area.
