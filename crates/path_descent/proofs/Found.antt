@@ -12,7 +12,6 @@ use Rattle.model.specs.declared.Hop.{Hop}
 use Rattle.model.specs.declared.TreeEntry.{TreeEntry}
 use Rattle.model.specs.declared.NodeAddress.{NodeAddress}
 use Rattle.model.specs.Lists.{below}
-use Rattle.model.specs.Profile.{Layout}
 use Rattle.model.specs.Request.{Search}
 use Rattle.model.specs.Path.{Leg, legs, leg_at, Route, extended, suffixes, cheapest}
 use Rattle.model.specs.Calls.{greater_than}
@@ -29,17 +28,17 @@ use Rattle.laws.proofs.TreeLeast.{entry-is, legs_left, no_legs_left}
 use Rattle.laws.proofs.Cheapest.{cheapest_mem}
 use Rattle.laws.proofs.Split.{first_split, first_there}
 use Rattle.laws.proofs.NextSplit.{next-after}
-use Rattle.request.specs.declared.Query.{Query}
 use Rattle.tree_reaches.specs.Reaches.{unreachable, code_if, code_at}
 use Rattle.tree_vspt.proofs.Filled.{paste_one}
 use Rattle.tree_vspt.proofs.Sequences.{stops-long}
 use Rattle.path_step.specs.declared.Heads.{Heads}
 use Rattle.path_step.specs.declared.Heads.TheVariants.{Any, Only, Above}
 use Rattle.path_step.specs.declared.Onward.{Onward}
-use Rattle.path_step.specs.Worked.{Worked, Stands}
+use Rattle.path_step.specs.declared.WorkedTree.{WorkedTree}
+use Rattle.path_step.specs.Worked.{layout_in, Worked, Stands}
 use Rattle.path_step.specs.Onward.{wanted_hops, legs_from, shortest_at, HopOn}
 use Rattle.path_descent.specs.Routes.{first_by, is_found, routed, Written}
-use Rattle.path_descent.proofs.Written.{written-long, set_before}
+use Rattle.path_descent.proofs.Written.{set_before}
 
 -- ---- any search, a place, an address
 
@@ -113,25 +112,25 @@ found_none (some r) e = absurd (true≢false e)
 
 -- ---- the recursions, one call at a time
 
-module _ (S : Search) (L : Layout) (s : List ℕ) (q : Query) (addresses codes starts firsts lasts : List ℕ) (worked : Worked S L s q addresses codes starts firsts lasts) where
-  sequence-long : length S.sequence ≡ q.count
-  sequence-long = ap length worked.sequence-is ∙ stops-long worked.include q
+module _ (S : Search) (T : WorkedTree) (worked : Worked S T) where
+  sequence-long : length S.sequence ≡ T.query.count
+  sequence-long = ap length worked.sequence-is ∙ stops-long worked.include T.query
 
-  legs_long : (i : ℕ) → length (legs_from S i) ≡ q.count - i
+  legs_long : (i : ℕ) → length (legs_from S i) ≡ T.query.count - i
   legs_long i = length-drop i (legs S.sequence) ∙ ap (λ (n : ℕ). n - i) (length_legs S.sequence ∙ sequence-long)
 
   sorted : SortedHops S.hops
-  sorted = subst SortedHops (sym worked.hops_are) (hops_sorted L s worked.bytes (accepted L s worked.right.passed))
+  sorted = subst SortedHops (sym worked.hops_are) (hops_sorted (layout_in T) T.profile.now worked.bytes (accepted (layout_in T) T.profile.now worked.right.passed))
 
-  legs_here : (i : ℕ) → i < q.count → legs_from S i ≡ leg_at S i ∷ legs_from S (suc i)
+  legs_here : (i : ℕ) → i < T.query.count → legs_from S i ≡ leg_at S i ∷ legs_from S (suc i)
   legs_here i h = legs_left S i (omega (arith, sequence-long))
 
-  no_legs : (i : ℕ) → i ≡ q.count → legs_from S i ≡ []
+  no_legs : (i : ℕ) → i ≡ T.query.count → legs_from S i ≡ []
   no_legs i h = ap (λ (n : ℕ). drop n (legs S.sequence)) (h ∙ sym sequence-long) ∙ no_legs_left S
 
   module _ (i a here : ℕ) (stands : Stands S i a here) where
     -- the last place: the address alone
-    pub last_written : (which : Heads) (old : List ℕ) → i ≡ q.count → i < length old → Written i (first_by S (legs_from S i) i a which) old true (set old i a)
+    pub last_written : (which : Heads) (old : List ℕ) → i ≡ T.query.count → i < length old → Written i (first_by S (legs_from S i) i a which) old true (set old i a)
     unfolding first_by first_from
     last_written which old h k =
         let none_left = no_legs i h in
@@ -145,7 +144,7 @@ module _ (S : Search) (L : Layout) (s : List ℕ) (q : Query) (addresses codes s
 
     -- behind the next hop
     pub first-behind-hop
-        : (which : Heads) → i < q.count → (h : Hop) → head? (wanted_hops which (shortest_at S i a)) ≡ some h
+        : (which : Heads) → i < T.query.count → (h : Hop) → head? (wanted_hops which (shortest_at S i a)) ≡ some h
         → first_by S (legs_from S i) i a which ≡ map (extended a h) (first_from S (legs_from S (suc i)) (suc i) h.head.0)
     unfolding first_by
     first-behind-hop which k h e =
@@ -153,7 +152,7 @@ module _ (S : Search) (L : Layout) (s : List ℕ) (q : Query) (addresses codes s
         ∙ ap (through (λ (g : Hop). map (extended a g) (first_from S (legs_from S (suc i)) (suc i) g.head.0))) e
 
     -- no hop
-    pub first-none : (which : Heads) → i < q.count → head? (wanted_hops which (shortest_at S i a)) ≡ none → first_by S (legs_from S i) i a which ≡ none
+    pub first-none : (which : Heads) → i < T.query.count → head? (wanted_hops which (shortest_at S i a)) ≡ none → first_by S (legs_from S i) i a which ≡ none
     unfolding first_by
     first-none which k e =
         ap (λ (ls : List Leg). first_by S ls i a which) (legs_here i k)
@@ -161,7 +160,7 @@ module _ (S : Search) (L : Layout) (s : List ℕ) (q : Query) (addresses codes s
 
     -- behind the hop found the call for every head has written the first; with the address before it that is the first here
     pub first-written
-        : (which : Heads) (on : Onward) (old mid : List ℕ) → i < q.count → q.count < length old → HopOn S i a which on
+        : (which : Heads) (on : Onward) (old mid : List ℕ) → i < T.query.count → T.query.count < length old → HopOn S i a which on
         → mid ≡ routed (suc i) (first_by S (legs_from S (suc i)) (suc i) on.head.0 Any) old
         → Written i (first_by S (legs_from S i) i a which) old true (set mid i a)
     first-written which on old mid k fits hop written =
@@ -177,26 +176,13 @@ module _ (S : Search) (L : Layout) (s : List ℕ) (q : Query) (addresses codes s
         (written ∙ ap (λ (o : Option Route). routed (suc i) o old) (any_first S (legs_from S (suc i)) (suc i) v t))
         (omega (arith, long, legs_long (suc i)))
 
-    -- what the call behind the hop has written keeps the length
-    pub behind-long
-        : (which : Heads) (on : Onward) (old mid : List ℕ) → i < q.count → q.count < length old → HopOn S i a which on
-        → mid ≡ routed (suc i) (first_by S (legs_from S (suc i)) (suc i) on.head.0 Any) old
-        → length mid ≡ length old
-    behind-long which on old mid k fits hop written =
-        let v = on.head.0 in
-        let t = reached S (suc i) v on.reach hop.stands in
-        let there = first_there S (legs_from S (suc i)) (suc i) v t in
-        let long = first_long S (legs_from S (suc i)) (suc i) v there.0 there.1 in
-        ap length (written ∙ ap (λ (o : Option Route). routed (suc i) o old) (any_first S (legs_from S (suc i)) (suc i) v t ∙ there.1))
-        ∙ written-long old there.0.addresses (suc i) (omega (arith, long, legs_long (suc i)))
-
     -- ---- above a given list
 
-    pub next-end : (g : List ℕ) → i ≡ q.count → next_after S (legs_from S i) i a g ≡ none
+    pub next-end : (g : List ℕ) → i ≡ T.query.count → next_after S (legs_from S i) i a g ≡ none
     unfolding next_after
     next-end g h = ap (λ (ls : List Leg). next_after S ls i a g) (no_legs i h)
 
-    module _ (given : List ℕ) (long : length given ≡ suc q.count) (k : i < q.count) where
+    module _ (given : List ℕ) (long : length given ≡ suc T.query.count) (k : i < T.query.count) where
       abbrev y : ℕ
       y = get_or given (suc i) 0
 
@@ -250,19 +236,9 @@ module _ (S : Search) (L : Layout) (s : List ℕ) (q : Query) (addresses codes s
               named ∙ ap (λ (o : Option Route). or_else (map (extended a hop.hop) o) (first_by S (legs_from S i) i a (Above (record { 0 = y })))) none_there,
             )
 
-        -- what was written deeper keeps the length
-        pub deeper_long : (old mid : List ℕ) (found : Bool) → q.count < length old → Written (suc i) found-there old found mid → length mid ≡ length old
-        deeper_long old mid found fits w = ap length w.holds ∙ go found-there refl
-          where
-            go : (o : Option Route) → found-there ≡ o → length (routed (suc i) o old) ≡ length old
-            go none e = refl
-            go (some r) e =
-                written-long old r.addresses (suc i)
-                (omega (arith, next_long S sorted (legs_from S (suc i)) (suc i) on.head.0 (drop (suc (suc i)) given) r e, legs_long (suc i)))
-
         -- found deeper
         pub next-written
-            : (old mid : List ℕ) → q.count < length old → Written (suc i) found-there old true mid
+            : (old mid : List ℕ) → T.query.count < length old → Written (suc i) found-there old true mid
             → Written i (next_after S (legs_from S i) i a (drop (suc i) given)) old true (set mid i a)
         next-written old mid fits w =
             let r = found_some found-there (sym w.says) in
