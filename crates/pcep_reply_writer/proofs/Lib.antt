@@ -3,3 +3,4 @@ pub mod Objects
 pub mod Steps
 pub mod Message
 pub mod Outcomes
+pub mod Routes

@@ -7,29 +7,41 @@ ghost use Rattle.buffers.specs.Placed.{Put};
 ghost use Rattle.pcep_model.specs.Metrics.{out_of_range};
 ghost use Rattle.pcep_model.specs.Pcrep.{written_pcrep, apart};
 ghost use Rattle.pcep_reply_writer.specs.Lengths.{capped, route_length, message_length};
+ghost use Rattle.pcep_reply_writer.specs.Routes.{is_path, addresses_of, nature_of, c_of, RouteIs};
 ghost use Rattle.pcep_reply_writer.specs.Writing.{reply_of, malformed_reply, reply_verdict, Fits, WrittenReply};
 
-use crate::parts::{Metrics, put_head, put_metrics, put_route};
+use crate::parts::{Metrics, Route, put_head, put_metrics, put_route};
 use model::{Reason, Refusal, Verdict};
 use refusal::refuse_if;
 
 pub mod parts;
 
-// The length of the ERO or the NO-PATH, or the greatest number where it is more.
-fn route_length(found: bool, addresses: usize) -> usize
-    ensures { result ≡ capped (route_length found addresses) }
+// What the parameters of `write_pcrep` say of a path.
+fn route_of<'a>(found: bool, addresses: &'a [u32], nature: u8, c: bool) -> Route<'a>
+    ensures { RouteIs found addresses.now nature c result }
 {
     if found {
-        return addresses.saturating_mul(8).saturating_add(4);
+        Route::Path(addresses)
+    } else {
+        Route::NoPath { nature, c }
     }
-    8
+}
+
+// The length of the ERO or the NO-PATH, or the greatest number where it is more.
+fn route_length(route: Route) -> usize
+    ensures { result ≡ capped (route_length (is_path route.entry) (length (addresses_of route.entry))) }
+{
+    match route {
+        Route::Path(addresses) => addresses.len().saturating_mul(8).saturating_add(4),
+        Route::NoPath { .. } => 8,
+    }
 }
 
 // The length of the message, or the greatest number where it is more.
-fn message_length(found: bool, addresses: usize, metrics: usize) -> usize
-    ensures { result ≡ capped (message_length found addresses metrics) }
+fn message_length(route: Route, metrics: usize) -> usize
+    ensures { result ≡ capped (message_length (is_path route.entry) (length (addresses_of route.entry)) metrics) }
 {
-    route_length(found, addresses)
+    route_length(route)
         .saturating_add(16)
         .saturating_add(metrics.saturating_mul(12))
 }
@@ -62,20 +74,17 @@ fn reply_verdict(size: usize, metrics: Metrics, room: usize) -> Verdict
 fn put_reply(
     id: u32,
     flags: u32,
-    found: bool,
-    addresses: &[u32],
-    nature: u8,
-    c: bool,
+    route: Route,
     metrics: Metrics,
     out: &mut [u8],
     size: usize,
 ) -> usize
-    requires { Fits found addresses.now metrics.kinds.now metrics.flags.now metrics.values.now out.old size }
-    ensures { Put 0 (written_pcrep (reply_of id flags found addresses.now nature c metrics.entry.kinds.now metrics.entry.flags.now metrics.entry.values.now)) out.old out.new result }
+    requires { Fits (is_path route) (addresses_of route) metrics.kinds.now metrics.flags.now metrics.values.now out.old size }
+    ensures { Put 0 (written_pcrep (reply_of id flags (is_path route.entry) (addresses_of route.entry) (nature_of route.entry) (c_of route.entry) metrics.entry.kinds.now metrics.entry.flags.now metrics.entry.values.now)) out.old out.new result }
 {
-    let route = put_head(out, size as u16, flags, id);
-    let behind = put_route(out, route, found, addresses, nature, c);
-    put_metrics(out, behind, metrics)
+    let second = put_head(out, size as u16, flags, id);
+    let third = put_route(out, second, route);
+    put_metrics(out, third, metrics)
 }
 
 // The message for a reply, for every input: 37, 21, 34, and then the bytes. On a refusal the buffer is untouched.
@@ -93,13 +102,14 @@ pub fn write_pcrep(
 ) -> Result<u32, Refusal>
     ensures { WrittenReply (reply_of id flags found addresses.now nature c kinds.now metric_flags.now values.now) (apart kinds.now metric_flags.now values.now) out.old out.new result }
 {
+    let route = route_of(found, addresses, nature, c);
     let metrics = Metrics {
         kinds,
         flags: metric_flags,
         values,
     };
-    let size = message_length(found, addresses.len(), kinds.len());
+    let size = message_length(route, kinds.len());
     reply_verdict(size, metrics, out.len())?;
-    put_reply(id, flags, found, addresses, nature, c, metrics, out, size);
+    put_reply(id, flags, route, metrics, out, size);
     Ok(size as u32)
 }

@@ -6,6 +6,7 @@ ghost use Rattle.buffers.specs.Placed.{Put};
 ghost use Rattle.pcep_model.specs.declared.MessageKind.TheVariants.{Pcrep};
 ghost use Rattle.pcep_model.specs.Pcrep.{mark, header_bytes, written_rp, written_step, written_ero, written_no_path, written_metric, metrics_of};
 ghost use Rattle.pcep_reply_writer.specs.Lengths.{route_length, Together};
+ghost use Rattle.pcep_reply_writer.specs.Routes.{is_path, addresses_of, nature_of, c_of};
 
 use wire::{put_u16, put_u32};
 
@@ -89,22 +90,21 @@ fn put_no_path(out: &mut [u8], at: usize, nature: u8, c: bool) -> usize
     at + 8
 }
 
-// An ERO where a path was found, else a NO-PATH.
-pub fn put_route(
-    out: &mut [u8],
-    at: usize,
-    found: bool,
-    addresses: &[u32],
-    nature: u8,
-    c: bool,
-) -> usize
-    requires { (at + route_length found (length addresses.now) ≤ length out.old) × (route_length found (length addresses.now) ≤ 65535) }
-    ensures { Put at (cond found (written_ero addresses.now) (written_no_path nature c)) out.old out.new result }
+// What a reply says of a path: its addresses, or why there is none.
+#[derive(Clone, Copy)]
+pub enum Route<'a> {
+    Path(&'a [u32]),
+    NoPath { nature: u8, c: bool },
+}
+
+// An ERO for a path, else a NO-PATH.
+pub fn put_route(out: &mut [u8], at: usize, route: Route) -> usize
+    requires { (at + route_length (is_path route) (length (addresses_of route)) ≤ length out.old) × (route_length (is_path route) (length (addresses_of route)) ≤ 65535) }
+    ensures { Put at (cond (is_path route.entry) (written_ero (addresses_of route.entry)) (written_no_path (nature_of route.entry) (c_of route.entry))) out.old out.new result }
 {
-    if found {
-        put_ero(out, at, addresses)
-    } else {
-        put_no_path(out, at, nature, c)
+    match route {
+        Route::Path(addresses) => put_ero(out, at, addresses),
+        Route::NoPath { nature, c } => put_no_path(out, at, nature, c),
     }
 }
 
