@@ -25,15 +25,13 @@ fn told(hits: usize, last: usize) -> NamedDomain
     requires { last ≤ 65535 }
     ensures { result ≡ found_as hits last }
 {
-    if hits == 0 {
-        return NamedDomain::Nothing;
-    }
-    if hits == 1 {
-        return NamedDomain::One {
+    match hits {
+        0 => NamedDomain::Nothing,
+        1 => NamedDomain::One {
             domain: DomainIndex(last as u16),
-        };
+        },
+        _ => NamedDomain::Several,
     }
-    NamedDomain::Several
 }
 
 // Which of the domains below `n` pass a test.
@@ -94,8 +92,5 @@ fn names(
     ensures { result ≡ area_is profile.now asn (record { kind = kind; bytes = part list.now start count }) i }
 {
     let d = domain_at(profile, i);
-    if d.asn != asn {
-        return false;
-    }
-    has_area(d, list, kind, start, count)
+    d.asn == asn && has_area(d, list, kind, start, count)
 }

@@ -10,11 +10,9 @@ use model::{DomainIndex, Limits, NodeAddress};
 pub fn limits_of(bandwidth_bits: u32, bound_counts: bool, bound_bits: u32) -> Limits
     ensures { result ≡ limits_of_bits bandwidth_bits bound_counts bound_bits }
 {
-    let bandwidth = float_of(bandwidth_bits);
-    let bound = float_of(bound_bits);
     Limits {
-        bandwidth,
-        bound,
+        bandwidth: float_of(bandwidth_bits),
+        bound: float_of(bound_bits),
         bounded: bound_counts,
     }
 }
@@ -30,11 +28,10 @@ pub fn asked_of(
 ) -> Asked
     ensures { result ≡ asked_of_bits ingress source destination bandwidth_bits bound_counts bound_bits }
 {
-    let limits = limits_of(bandwidth_bits, bound_counts, bound_bits);
     Asked {
         ingress: DomainIndex(ingress),
         source: NodeAddress(source),
         destination: NodeAddress(destination),
-        limits,
+        limits: limits_of(bandwidth_bits, bound_counts, bound_bits),
     }
 }
