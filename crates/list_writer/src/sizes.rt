@@ -5,6 +5,7 @@ ghost use Rattle.model.specs.WrittenList.{written_pin, pin_if, system_if, writte
 ghost use Rattle.laws.specs.Stops.{pin_as};
 ghost use Rattle.list_writer.specs.Writing.{AreaRight, system_again, named_size, Fitting};
 
+use crate::Lent;
 use list_form::rounded_up;
 use model::{Domain, NodeAddress};
 use profile_records::domain::domain_at;
@@ -65,24 +66,17 @@ fn named_size(pin: Option<NodeAddress>, again: bool, d: Domain) -> usize
 }
 
 // The whole list of a sequence. Its nodes and the EXRS' bytes don't change its size; the contract names what is written by them.
-pub fn list_size(
-    profile: &[u8],
-    indexes: &[u16],
-    marks: &[u8],
-    nodes: &[u32],
-    counts: &[u32],
-    exrs: &[u8],
-) -> usize
-    requires { Fitting profile.now indexes.now marks.now nodes.now counts.now exrs.now × (length exrs.now ≤ 1024) }
-    ensures { (result ≤ 1600) × (result ≡ length (written (domains profile.now) (stops indexes.now marks.now nodes.now counts.now exrs.now))) }
+pub fn list_size(profile: &[u8], lent: Lent) -> usize
+    requires { Fitting profile.now lent.indexes.now lent.marks.now lent.nodes.now lent.counts.now lent.exrs.now × (length lent.exrs.now ≤ 1024) }
+    ensures { (result ≤ 1600) × (result ≡ length (written (domains profile.now) (stops lent.entry.indexes.now lent.entry.marks.now lent.entry.nodes.now lent.entry.counts.now lent.entry.exrs.now))) }
 {
     let mut size = 0;
     let mut before = None;
-    for i in 0..indexes.len() {
-        let d = domain_at(profile, indexes[i] as usize);
+    for i in 0..lent.indexes.len() {
+        let d = domain_at(profile, lent.indexes[i] as usize);
         let again = same_system(before, d.asn);
-        size += named_size(pin_of(marks[i], nodes[i]), again, d);
-        size += counts[i] as usize;
+        size += named_size(pin_of(lent.marks[i], lent.nodes[i]), again, d);
+        size += lent.counts[i] as usize;
         before = Some(d.asn);
     }
     size

@@ -8,6 +8,7 @@ ghost use Rattle.model.specs.Subobject.{Subobject, form_verdict, subobjects};
 ghost use Rattle.model.specs.WrittenList.{first_marked, is_exrs, whole_exrs, unfit, unwritable};
 ghost use Rattle.list_writer.specs.Writing.{no_sequence, some_part_broken};
 
+use crate::Lent;
 use crate::sizes::list_size;
 use list_form::form;
 use list_subobject::types::SubobjectType;
@@ -58,12 +59,15 @@ fn sum_of(counts: &[u32]) -> usize
 
 // The lists don't fit together: not one of each for every domain, or counts that don't come to all the EXRS' bytes.
 #[tactic(auto, unfolding(model::specs::WrittenList::unfit))]
-fn unfit(indexes: &[u16], marks: &[u8], nodes: &[u32], counts: &[u32], exrs: &[u8]) -> bool
-    requires { length indexes.now ≤ 16 }
-    ensures { result ≡ unfit indexes.now marks.now nodes.now counts.now exrs.now }
+fn unfit(lent: Lent) -> bool
+    requires { length lent.indexes.now ≤ 16 }
+    ensures { result ≡ unfit lent.entry.indexes.now lent.entry.marks.now lent.entry.nodes.now lent.entry.counts.now lent.entry.exrs.now }
 {
-    let n = indexes.len();
-    marks.len() != n || nodes.len() != n || counts.len() != n || sum_of(counts) != exrs.len()
+    let n = lent.indexes.len();
+    lent.marks.len() != n
+        || lent.nodes.len() != n
+        || lent.counts.len() != n
+        || sum_of(lent.counts) != lent.exrs.len()
 }
 
 // Every subobject of a list of right form is an EXRS.
@@ -115,38 +119,24 @@ fn first_marked(marks: &[u8], counts: &[u32]) -> bool
 }
 
 // The lists, of which the profile has so many domains, stand for no sequence of domains.
-fn no_sequence(
-    domains: u16,
-    indexes: &[u16],
-    marks: &[u8],
-    nodes: &[u32],
-    counts: &[u32],
-    exrs: &[u8],
-) -> bool
-    ensures { result ≡ no_sequence domains indexes.now marks.now nodes.now counts.now exrs.now }
+fn no_sequence(domains: u16, lent: Lent) -> bool
+    ensures { result ≡ no_sequence domains lent.entry.indexes.now lent.entry.marks.now lent.entry.nodes.now lent.entry.counts.now lent.entry.exrs.now }
 {
-    if indexes.is_empty() || 16 < indexes.len() || unfit(indexes, marks, nodes, counts, exrs) {
+    if lent.indexes.is_empty() || 16 < lent.indexes.len() || unfit(lent) {
         return true;
     }
-    stop_wrong(indexes, marks, domains) || first_marked(marks, counts)
+    stop_wrong(lent.indexes, lent.marks, domains) || first_marked(lent.marks, lent.counts)
 }
 
 // A sequence, as the lent lists give it, can't be written.
-pub fn unwritable(
-    profile: &[u8],
-    indexes: &[u16],
-    marks: &[u8],
-    nodes: &[u32],
-    counts: &[u32],
-    exrs: &[u8],
-) -> bool
+pub fn unwritable(profile: &[u8], lent: Lent) -> bool
     requires { verdict_on profile.now ≡ Pass }
-    ensures { result ≡ unwritable (domains profile.now) indexes.now marks.now nodes.now counts.now exrs.now }
+    ensures { result ≡ unwritable (domains profile.now) lent.entry.indexes.now lent.entry.marks.now lent.entry.nodes.now lent.entry.counts.now lent.entry.exrs.now }
 {
     let domains = u16_at(profile, 6);
     // A list is at least as long as its EXRS, so the form of longer ones is never asked.
-    if no_sequence(domains, indexes, marks, nodes, counts, exrs) || 1024 < exrs.len() {
+    if no_sequence(domains, lent) || 1024 < lent.exrs.len() {
         return true;
     }
-    some_part_broken(counts, exrs) || 1024 < list_size(profile, indexes, marks, nodes, counts, exrs)
+    some_part_broken(lent.counts, lent.exrs) || 1024 < list_size(profile, lent)
 }

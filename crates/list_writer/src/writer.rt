@@ -5,6 +5,7 @@ ghost use Rattle.model.specs.Profile.{domains};
 ghost use Rattle.model.specs.WrittenList.{stops, written};
 ghost use Rattle.list_writer.specs.Writing.{Fitting, WrittenBy};
 
+use crate::Lent;
 use crate::parts::put_stop;
 use crate::sizes::{list_size, pin_of, same_system};
 use crate::writable::unwritable;
@@ -14,30 +15,22 @@ use profile_records::domain::domain_at;
 use refusal::refuse_if;
 
 // The whole list over the start of a buffer that has room for it.
-fn put_all(
-    profile: &[u8],
-    indexes: &[u16],
-    marks: &[u8],
-    nodes: &[u32],
-    counts: &[u32],
-    exrs: &[u8],
-    out: &mut [u8],
-)
-    requires { Fitting profile.now indexes.now marks.now nodes.now counts.now exrs.now × (length (written (domains profile.now) (stops indexes.now marks.now nodes.now counts.now exrs.now)) ≤ length out.old) }
-    ensures { out.new ≡ over (written (domains profile.now) (stops indexes.now marks.now nodes.now counts.now exrs.now)) out.old }
+fn put_all(profile: &[u8], lent: Lent, out: &mut [u8])
+    requires { Fitting profile.now lent.indexes.now lent.marks.now lent.nodes.now lent.counts.now lent.exrs.now × (length (written (domains profile.now) (stops lent.indexes.now lent.marks.now lent.nodes.now lent.counts.now lent.exrs.now)) ≤ length out.old) }
+    ensures { out.new ≡ over (written (domains profile.now) (stops lent.entry.indexes.now lent.entry.marks.now lent.entry.nodes.now lent.entry.counts.now lent.entry.exrs.now)) out.old }
 {
     let mut at = 0;
     let mut before = None;
     let mut from = 0;
-    for i in 0..indexes.len() {
-        let d = domain_at(profile, indexes[i] as usize);
+    for i in 0..lent.indexes.len() {
+        let d = domain_at(profile, lent.indexes[i] as usize);
         let again = same_system(before, d.asn);
-        let to = from + counts[i] as usize;
+        let to = from + lent.counts[i] as usize;
         at = put_stop(
             out,
             at,
-            pin_of(marks[i], nodes[i]),
-            &exrs[from..to],
+            pin_of(lent.marks[i], lent.nodes[i]),
+            &lent.exrs[from..to],
             again,
             d,
         );
@@ -60,10 +53,17 @@ pub fn write_list(
     ensures { WrittenBy profile.now domains.now pinned.now pins.now counts.now exrs.now out.old out.new result }
 {
     verdict_on(profile)?;
-    let wrong = unwritable(profile, domains, pinned, pins, counts, exrs);
+    let lent = Lent {
+        indexes: domains,
+        marks: pinned,
+        nodes: pins,
+        counts,
+        exrs,
+    };
+    let wrong = unwritable(profile, lent);
     refuse_if(wrong, Reason::Unwritable, 0)?;
-    let n = list_size(profile, domains, pinned, pins, counts, exrs);
+    let n = list_size(profile, lent);
     refuse_if(out.len() < n, Reason::LittleRoom, 0)?;
-    put_all(profile, domains, pinned, pins, counts, exrs, out);
+    put_all(profile, lent, out);
     Ok(n as u32)
 }

@@ -15,11 +15,36 @@ use Rattle.list_writer.proofs.sizes.list_size.Goals as goal
 use Rattle.list_writer.proofs.sizes.list_size.Goals.{In-loop-i}
 
 -- where the EXRS of the domain at hand end
-stretch : (c : In-loop-i) → bytes_before c.args.counts.now c.loop-i.i + get_or c.args.counts.now c.loop-i.i 0 ≤ length c.args.exrs.now
+stretch : (c : In-loop-i) → bytes_before c.args.lent.counts.now c.loop-i.i + get_or c.args.lent.counts.now c.loop-i.i 0 ≤ length c.args.lent.exrs.now
 stretch c =
     let t = fit c.requires.0 in
     let m = t.as_many_counts in
-    exrs-inside c.args.counts.now c.args.exrs.now t.all_bytes c.loop-i.i (omega (arith, c.loop-i-test.true))
+    exrs-inside c.args.lent.counts.now c.args.lent.exrs.now t.all_bytes c.loop-i.i (omega (arith, c.loop-i-test.true))
+
+pub bounds-lent-i-in-loop-i : goal.bounds-lent-i-in-loop-i
+bounds-lent-i-in-loop-i c =
+    let t = fit c.requires.0 in
+    omega (arith, t.as_many_marks, t.as_many_nodes, t.as_many_counts)
+
+pub bounds-lent-i-in-loop-i-2 : goal.bounds-lent-i-in-loop-i-2
+bounds-lent-i-in-loop-i-2 c =
+    let t = fit c.requires.0 in
+    omega (arith, t.as_many_marks, t.as_many_nodes, t.as_many_counts)
+
+pub bounds-lent-i-in-loop-i-3 : goal.bounds-lent-i-in-loop-i-3
+bounds-lent-i-in-loop-i-3 c =
+    let t = fit c.requires.0 in
+    omega (arith, t.as_many_marks, t.as_many_nodes, t.as_many_counts)
+
+pub offset_bounds-lent-i-in-loop-i : goal.offset_bounds-lent-i-in-loop-i
+offset_bounds-lent-i-in-loop-i c =
+    let t = fit c.requires.0 in
+    omega (arith, t.as_many_marks, t.as_many_nodes, t.as_many_counts)
+
+pub offset_bounds-lent-i-in-loop-i-2 : goal.offset_bounds-lent-i-in-loop-i-2
+offset_bounds-lent-i-in-loop-i-2 c =
+    let t = fit c.requires.0 in
+    omega (arith, t.as_many_marks, t.as_many_nodes, t.as_many_counts)
 
 pub loop-i-init : goal.loop-i-init
 unfolding written sum
@@ -28,12 +53,6 @@ loop-i-init c = (omega arith, omega arith)
 pub domain_at-d-requires : goal.domain_at-d-requires
 domain_at-d-requires c = inside c.requires.0 c.loop-i.i c.loop-i-test.true
 
-pub bounds-marks-i : goal.bounds-marks-i
-bounds-marks-i c = let t = (fit c.requires.0).as_many_marks in omega arith
-
-pub bounds-nodes-i : goal.bounds-nodes-i
-bounds-nodes-i c = let t = (fit c.requires.0).as_many_nodes in omega arith
-
 pub named_size-size-requires : goal.named_size-size-requires
 named_size-size-requires c = subst AreaRight (sym c.domain_at-d.ensures) (area-right c.requires.0 c.loop-i.i c.loop-i-test.true)
 
@@ -41,12 +60,6 @@ pub overflow_add-size : goal.overflow_add-size
 overflow_add-size c =
     let end = stretch (goal.at.overflow_add-size c).In-loop-i in
     omega (arith, c.requires.0.most, c.requires.1, c.loop-i.invariant.0, c.named_size-size.ensures.0)
-
-pub offset_bounds-counts-i : goal.offset_bounds-counts-i
-offset_bounds-counts-i c = let t = (fit c.requires.0).as_many_counts in omega arith
-
-pub bounds-counts-i : goal.bounds-counts-i
-bounds-counts-i c = let t = (fit c.requires.0).as_many_counts in omega arith
 
 pub overflow_add-size-in-loop-i : goal.overflow_add-size-in-loop-i
 overflow_add-size-in-loop-i c =
@@ -57,7 +70,7 @@ pub loop-i-preserved : goal.loop-i-preserved
 loop-i-preserved c =
     let a = c.args in
     let i = c.loop-i.i in
-    let next = bytes-further a.counts.now i (omega (arith, (fit c.requires.0).as_many_counts)) in
+    let next = bytes-further a.lent.counts.now i (omega (arith, (fit c.requires.0).as_many_counts)) in
     let long = left_long c.requires.0 i c.loop-i-test.true c.loop-i.before _ c.same_system-again.result c.domain_at-d.result c.domain_at-d.ensures c.same_system-again.ensures c.pin_of.ensures in
     (omega (arith, c.loop-i.invariant.0, c.named_size-size.ensures.0), omega (arith, c.loop-i.invariant.1, c.named_size-size.ensures.1))
 
@@ -65,6 +78,6 @@ pub returns : goal.returns
 returns c =
     let a = c.args in
     let l = c.loop-i in
-    let all = ap length (nothing_left a.profile.now a.indexes.now a.marks.now a.nodes.now a.counts.now a.exrs.now l.i l.before (omega arith)) in
+    let all = ap length (nothing_left a.profile.now a.lent.indexes.now a.lent.marks.now a.lent.nodes.now a.lent.counts.now a.lent.exrs.now l.i l.before (omega arith)) in
     let bytes = (fit c.requires.0).all_bytes in
-    (omega (arith, c.requires.0.most, c.requires.1, bytes_most a.counts.now l.i), omega arith)
+    (omega (arith, c.requires.0.most, c.requires.1, bytes_most a.lent.counts.now l.i), omega arith)

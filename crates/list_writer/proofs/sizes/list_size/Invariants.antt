@@ -11,5 +11,5 @@ use Rattle.list_writer.proofs.sizes.list_size.Given as goal
 
 abbrev pub invariant-loop-i : goal.invariant-loop-i
 invariant-loop-i l =
-    (l.size ≤ 36 * l.i + bytes_before l.counts l.i)
-    × (l.size + length (left l.profile l.indexes l.marks l.nodes l.counts l.exrs l.i l.before) ≡ length (written (domains l.profile) (stops l.indexes l.marks l.nodes l.counts l.exrs)))
+    (l.size ≤ 36 * l.i + bytes_before l.lent.counts.now l.i)
+    × (l.size + length (left l.profile l.lent.indexes.now l.lent.marks.now l.lent.nodes.now l.lent.counts.now l.lent.exrs.now l.i l.before) ≡ length (written (domains l.profile) (stops l.lent.indexes.now l.lent.marks.now l.lent.nodes.now l.lent.counts.now l.lent.exrs.now)))

@@ -8,7 +8,7 @@ use Rattle.list_writer.proofs.writable.no_sequence.Goals as goal
 pub first_marked-requires : goal.first_marked-requires
 first_marked-requires c =
     let a = c.args in
-    let t = together a.indexes.now a.marks.now a.nodes.now a.counts.now a.exrs.now (sym c.unfit.ensures ∙ c.if-unfit.false) in
+    let t = together a.lent.indexes.now a.lent.marks.now a.lent.nodes.now a.lent.counts.now a.lent.exrs.now (sym c.unfit.ensures ∙ c.if-unfit.false) in
     let some = eqb-false _ _ (sym c.is_empty.ensures ∙ c.if-is_empty.false) in
     let marks = t.as_many_marks in
     let counts = t.as_many_counts in

@@ -13,7 +13,7 @@ use Rattle.list_writer.proofs.writer.put_all.Given as goal
 
 abbrev pub invariant-loop-i : goal.invariant-loop-i
 invariant-loop-i l =
-    (l.from ≡ bytes_before l.counts l.i)
+    (l.from ≡ bytes_before l.lent.counts.now l.i)
     × (length l.out ≡ length l.initial.out)
-    × (l.at + length (left l.profile l.indexes l.marks l.nodes l.counts l.exrs l.i l.before) ≡ length (written (domains l.profile) (stops l.indexes l.marks l.nodes l.counts l.exrs)))
-    × (placed l.at (left l.profile l.indexes l.marks l.nodes l.counts l.exrs l.i l.before) l.out ≡ over (written (domains l.profile) (stops l.indexes l.marks l.nodes l.counts l.exrs)) l.initial.out)
+    × (l.at + length (left l.profile l.lent.indexes.now l.lent.marks.now l.lent.nodes.now l.lent.counts.now l.lent.exrs.now l.i l.before) ≡ length (written (domains l.profile) (stops l.lent.indexes.now l.lent.marks.now l.lent.nodes.now l.lent.counts.now l.lent.exrs.now)))
+    × (placed l.at (left l.profile l.lent.indexes.now l.lent.marks.now l.lent.nodes.now l.lent.counts.now l.lent.exrs.now l.i l.before) l.out ≡ over (written (domains l.profile) (stops l.lent.indexes.now l.lent.marks.now l.lent.nodes.now l.lent.counts.now l.lent.exrs.now)) l.initial.out)
