@@ -2,7 +2,9 @@
 ghost use Rattle.std.specs.Prelude.{◌≡◌, ◌+◌, ◌≤◌, length, ℕ};
 ghost use Rattle.std.specs.Option.{ForSome, option_or, option_map};
 ghost use Rattle.pcep_model.specs.Metrics.{value_at};
-ghost use Rattle.pcep_request_reader.specs.ParsedPcreq.{Framed, FieldsAre, ParsedPcreqIs};
+ghost use Rattle.pcep_model.specs.declared.MessageKind.TheVariants.{Pcreq};
+ghost use Rattle.pcep_message.specs.Framed.{FramePassed};
+ghost use Rattle.pcep_request_reader.specs.ParsedPcreq.{Framed, FieldsAre, PartsAre, ParsedPcreqIs};
 
 use model::{NodeAddress, Refusal};
 use pcep_message::frame;
@@ -57,15 +59,23 @@ pub struct PcreqParts {
     pub wrong: bool,
 }
 
+// The parts of a PCReq whose frame passes, by its first objects.
+fn parts_of(message: &[u8], firsts: Objects) -> PcreqParts
+    requires { FramePassed Pcreq message.now firsts }
+    ensures { PartsAre message.now result }
+{
+    let met = judge(message);
+    PcreqParts {
+        fields: fields_of(message, firsts, met.count),
+        bound: value_of(message, judged(met.bound, met.wrong)),
+        wrong: met.wrong.is_some(),
+    }
+}
+
 // The checks of the frame, 36 to 40, and the parts of a PCReq that passes them. For every byte slice.
 pub fn take_apart(message: &[u8]) -> Result<PcreqParts, Refusal>
     ensures { ParsedPcreqIs message.now result }
 {
     let firsts = frame(MessageKind::Pcreq, message)?;
-    let met = judge(message);
-    Ok(PcreqParts {
-        fields: fields_of(message, firsts, met.count),
-        bound: value_of(message, judged(met.bound, met.wrong)),
-        wrong: met.wrong.is_some(),
-    })
+    Ok(parts_of(message, firsts))
 }
