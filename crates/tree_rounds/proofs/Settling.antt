@@ -32,7 +32,7 @@ use Rattle.tree_rounds.proofs.Source.{source-number, none_admissible}
 
 module _
     (L : Layout) (s : List ℕ) (lists : Lists) (q : Query) (cheap : L.most_cost ≤ cost_limit) (ready : Ready L s lists q) (addresses starts firsts lasts : List ℕ) (examined : ℕ)
-    (covered : (S : Search) → Covers S L s q.domains q.count q.source.0 q.destination.0 → LaidOut S L s addresses starts firsts lasts examined)
+    (covered : (S : Search) → Covers S L s q.stops q.count q.source.0 q.destination.0 → LaidOut S L s addresses starts firsts lasts examined)
   where
     laid_in : (x : Round) → LaidOut (search_for L s lists (in_round x q)) L s addresses starts firsts lasts examined
     laid_in x = covered (search_for L s lists (in_round x q)) (covers L s lists (in_round x q) (ready_in x q ready))

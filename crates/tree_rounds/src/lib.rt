@@ -38,26 +38,18 @@ pub fn admissible(limits: Limits, here: u32) -> bool
     requires { limits.bounded ≡ true → in_range limits.bound ≡ true }
     ensures { result ≡ kept_by limits here }
 {
-    if here == UNREACHABLE {
-        return false;
-    }
-    keeps_bound(limits, here)
+    here != UNREACHABLE && keeps_bound(limits, here)
 }
 
 // A second round is needed: the first has no admissible path, by the source's number, and some exclusion has X set, in the exclude list or in an EXRS. All EXRS stand
 // before the subobject that named the last domain.
 fn needs_second(include: &[u8], exclude: &[u8], q: Query, here: u32) -> bool
     requires exclude_value { (form_verdict Exclude exclude.now ≡ Pass) × (q.limits.bounded ≡ true → in_range q.limits.bound ≡ true) }
-    requires le_count { (1 ≤ q.count) × (q.count ≤ 16) × (length q.named ≡ 16) × Stretch include.now 0 (last_named q) × (length include.now ≤ 1024) }
+    requires le_count { (1 ≤ q.count) × (q.count ≤ 16) × (length q.stops ≡ 16) × Stretch include.now 0 (last_named q) × (length include.now ≤ 1024) }
     ensures { result ≡ some_desired (all_there (lists_of include.now exclude.now) 0 (last_named q)) && not (kept_by q.limits here) }
 {
-    let limits = q.limits;
-    if admissible(limits, here) {
-        return false;
-    }
-    let named = q.named;
-    let last = named[q.count - 1] as usize;
-    some_desired_there(include, exclude, 0, last)
+    let last = q.stops[q.count - 1].named as usize;
+    !admissible(q.limits, here) && some_desired_there(include, exclude, 0, last)
 }
 
 // The tree of a query in the round that applies: its places' entries, laid out once, and how each reaches the destination. The second round's numbers
@@ -78,16 +70,13 @@ pub fn settle(
     requires room { Room addresses.old starts.old firsts.old lasts.old × (length reaches.old ≡ 242) }
     ensures { ChosenRoundIs (layout_of layout) s.now (lists_of include.now exclude.now) q addresses.new reaches.new starts.new firsts.new lasts.new result }
 {
-    let domains = q.domains;
-    let source = q.source;
-    let destination = q.destination;
     let examined = lay_out(
         s,
         layout,
-        domains,
+        &q.stops,
         q.count,
-        source,
-        destination,
+        q.source,
+        q.destination,
         addresses,
         starts,
         firsts,

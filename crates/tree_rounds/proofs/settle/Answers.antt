@@ -36,7 +36,7 @@ needs_second-requires c =
     let ready = c.requires.sound_layout.1 in
     record {
       exclude_value = (ready.exclude-right, ready.bound-right);
-      le_count = (ready.some_domain_lem, ready.most, ready.named-long, all_stretch _ _ _ _ ready, ready.include-short);
+      le_count = (ready.some_domain_lem, ready.most, ready.stops-long, all_stretch _ _ _ _ ready, ready.include-short);
     }
 
 pub returns-then-not-needs_second : goal.returns-then-not-needs_second
