@@ -5,13 +5,13 @@ use mathlib.Core.List.{List, [], ◌∷◌, ◌++◌}
 use Prim.Native.Nat.{ℕ, suc, ◌+◌, ◌<◌, ◌≤◌}
 use native.Mathlib.Numerals.{add-one}
 use native.Mathlib.Omega.{arith}
-use borrow.Author.Tests.{eqb-true}
+use borrow.Author.Tests.{eqb-true, le-leb}
 use lib.ListN.{length, take, drop, set, get_or, replicate, length-set, take-append-drop}
 use lib.Seq.{take-suc-set, drop-set-lt, drop-cons}
-use lib.Dec.{eqb}
+use lib.Dec.{eqb, leb}
 use Rattle.model.specs.Lists.{among}
 use Rattle.laws.proofs.Different.{among-append}
-use Rattle.profile_check.specs.Noting.{Padded, Added}
+use Rattle.profile_check.specs.Noting.{Padded, Added, with_node}
 
 pub snoc_among : (y x : ℕ) (xs : List ℕ) → among y (xs ++ (x ∷ [])) ≡ among y xs || eqb y x
 unfolding among
@@ -114,3 +114,10 @@ module _ (old : List ℕ) (count node : ℕ) (some : count ≡ 0 → ⊥) (few :
           same = λ _. stored_same old count (omega arith) p node (omega arith);
         },
       )
+
+-- ---- as the code says it
+
+module _ (old : List ℕ) (count node : ℕ) (new : List ℕ) (after : ℕ) where
+  pub noted : (after ≡ with_node old count node) × Added old count node new after → after ≤ 16
+      → (true ≡ leb (with_node old count node) 16) × Added old count node new (with_node old count node) × (after ≡ with_node old count node)
+  noted p few = (subst (λ (k : ℕ). true ≡ leb k 16) p.0 (sym (le-leb after 16 few)), subst (Added old count node new) p.0 p.1, p.0)

@@ -1,5 +1,5 @@
 -- What the pass that notes entry nodes keeps in its list of 16: the first `count` places hold the nodes, and the places past them repeat some of these.
-use Rattle.std.specs.Prelude.{ℕ, ◌≤◌, ◌<◌, ◌≡◌, true, ◌||◌, List, length, take, drop, eqb}
+use Rattle.std.specs.Prelude.{ℕ, ◌≤◌, ◌<◌, ◌≡◌, true, cond, ◌||◌, ◌+◌, List, length, take, drop, eqb}
 use Rattle.model.specs.Lists.{among}
 
 abbrev pub Padded : List ℕ → ℕ → Type 0
@@ -10,3 +10,7 @@ pub record Added (old : List ℕ) (count node : ℕ) (new : List ℕ) (after : �
   pub long : length new ≡ 16
   pub padded : after ≤ 16 → Padded new after
   pub same : after ≤ 16 → (y : ℕ) → among y (take after new) ≡ among y (take count old) || eqb y node
+
+-- how many they are with the node
+abbrev pub with_node : List ℕ → ℕ → ℕ → ℕ
+with_node noted count node = cond (among node (take count noted)) count (count + 1)

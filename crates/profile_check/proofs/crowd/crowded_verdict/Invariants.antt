@@ -12,8 +12,8 @@ use Rattle.profile_check.proofs.crowd.crowded_verdict.Given as goal
 
 abbrev pub invariant-loop-i : goal.invariant-loop-i
 invariant-loop-i l =
-    (l.count ≤ 16)
-    × (length l.noted ≡ 16)
-    × Padded l.noted l.count
-    × Passing (layout_of l.layout) l.s l.d.0 l.e.0 l.i l.noted l.count
+    (l.noted.count ≤ 16)
+    × (length l.noted.nodes ≡ 16)
+    × Padded l.noted.nodes l.noted.count
+    × Passing (layout_of l.layout) l.s l.noted.from.0 l.noted.to.0 l.i l.noted.nodes l.noted.count
     × Turned (crowded_verdict (layout_of l.layout) l.s) l.hops l.i

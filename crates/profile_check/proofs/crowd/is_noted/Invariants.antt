@@ -1,8 +1,0 @@
--- `profile_check::crowd::is_noted` meets its contract. The loop's invariant: what is found so far is the answer for those passed.
-use Rattle.model.specs.Lists.{among}
-use lib.ListN.{take}
-use mathlib.Core.Path.{◌≡◌}
-use Rattle.profile_check.proofs.crowd.is_noted.Given as goal
-
-abbrev pub invariant-loop-other : goal.invariant-loop-other
-invariant-loop-other l = l.found ≡ among l.node.0 (take l.other-index l.noted)
