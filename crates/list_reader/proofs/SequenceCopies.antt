@@ -1,11 +1,11 @@
 -- A state's sequence copied to the lent buffers, part by part: one turn writes one part of the stop at hand, and its EXRS behind those before. Over what the part is.
-use mathlib.Core.Path.{◌≡◌, sym, ap, subst, ◌∙◌}
+use mathlib.Core.Path.{◌≡◌, refl, sym, ap, ap₂, subst, ◌∙◌}
 use mathlib.Core.Bool.{Bool}
 use mathlib.Core.List.{List, ◌++◌, map}
 use mir.Val.{bool_byte}
 use Rattle.std.specs.Prelude.{Option, None, Some, is_some, unwrap_or}
 use Rattle.model.specs.declared.NodeAddress.{NodeAddress}
-use Prim.Native.Nat.{ℕ, ◌+◌, ◌≤◌, ◌<◌}
+use Prim.Native.Nat.{ℕ, zero, suc, ◌+◌, ◌-◌, ◌≤◌, ◌<◌}
 use native.Mathlib.Nat.{zero-add}
 use native.Mathlib.Numerals.{add-one}
 use native.Mathlib.Omega.{arith}
@@ -18,7 +18,8 @@ use Rattle.model.specs.Path.{no_stop}
 use Rattle.laws.specs.Exrs.{exrs_in, Stretch}
 use Rattle.laws.specs.Stops.{pin_as, named_in, stretch_start}
 use Rattle.laws.proofs.Stops.{stop_at_lem}
-use Rattle.laws.proofs.ExrsSizes.{exrs_before, before_none, before_next, before-few}
+use Rattle.laws.proofs.Waiting.{empty_stretch, stretch_join, exrs_join}
+use Rattle.laws.proofs.ExrsSizes.{no_exrs, exrs_before, before_none, before_next, before-few}
 use Rattle.list_include.specs.declared.state.State.{State}
 use Rattle.list_include.specs.Reading.{state_stop, state_stops, Placed}
 use Rattle.list_include.proofs.States.{length-stops}
@@ -92,11 +93,37 @@ module _ (list : List ℕ) (st : State) where
         ∙ ap {B = List ℕ} (λ (p : Stop). passed i ++ p.exrs) (stop-there i h)
         ∙ ap {B = List ℕ} (λ (n : ℕ). passed i ++ exrs_in list n to) (sym e)
 
-    pub size_next : length (passed i) + length (exrs_in list from to) ≡ length (passed (i + 1))
+    size_next : length (passed i) + length (exrs_in list from to) ≡ length (passed (i + 1))
     size_next = sym (ap length passed_next ∙ length-append (passed i) (exrs_in list from to))
 
     pub size_fits : length (passed i) + length (exrs_in list from to) ≤ length (all_exrs (state_stops list st))
     size_fits = omega (arith, size_next, before-few (state_stops list st) (i + 1))
+
+  -- those of all stops stand in one stretch: one stop's behind the other's
+  module _ (placed : Placed list st) where
+    abbrev Together : ℕ → Type 0
+    Together i = Stretch list 0 (stretch_start st.stops i) × (passed i ≡ exrs_in list 0 (stretch_start st.stops i))
+
+    together : (i : ℕ) → i ≤ st.count → Together i
+    together zero h = (empty_stretch list 0 (omega arith), before_none (state_stops list st) ∙ sym (no_exrs list 0 0 (omega arith)))
+    together (suc i) h =
+        let so_far = together i (omega arith) in
+        let start = stretch_start st.stops i in
+        let own = placed i (omega arith) in (
+          stretch_join list 0 start (named_in st.stops i) so_far.0 own,
+          before_next (state_stops list st) i (omega (arith, length-stops list st))
+              ∙ ap₂ {C = List ℕ} (λ (x y : List ℕ). x ++ y) so_far.1 (ap (λ (p : Stop). p.exrs) (stop-there i (omega arith)))
+              ∙ sym (exrs_join list 0 start (named_in st.stops i) so_far.0 own),
+        )
+
+    pub all_together : (last : ℕ) → last ≡ stretch_start st.stops st.count → Stretch list 0 last × (exrs_in list 0 last ≡ all_exrs (state_stops list st))
+    all_together last e =
+        let all = together st.count (omega arith) in
+        (subst (Stretch list 0) (sym e) all.0, ap (exrs_in list 0) e ∙ sym all.1 ∙ all_passed st.count refl)
+
+  pub last_start : (n : ℕ) → 1 ≤ n → named_in st.stops (n - 1) ≡ stretch_start st.stops n
+  last_start zero h = absurd (omega arith)
+  last_start (suc n) h = let e : suc n - 1 ≡ n = omega arith in ap (named_in st.stops) e
 
   pub none_put : (out : List ℕ) → Put 0 (passed 0) out out 0
   none_put out = subst (λ (l : List ℕ). Put 0 l out out 0) (sym (before_none (state_stops list st))) (nothing_put out 0)

@@ -54,19 +54,13 @@ fn put_exrs(list: &[u8], from: usize, to: usize, out: &mut [u8], at: usize) -> u
     end
 }
 
-// How many bytes all EXRS of a sequence have.
+// How many bytes all EXRS of a sequence have: they stand before the subobject that named the last domain.
 pub fn all_size(list: &[u8], st: State) -> usize
     requires { SoundState st × Placed list.now st × (length list.now ≤ 1024) }
     ensures { (result ≡ length (all_exrs (state_stops list.now st))) × (result ≤ 1024) }
 {
-    let mut size: usize = 0;
-    let mut from: usize = 0;
-    for i in 0..st.count {
-        let to = st.stops[i].named as usize;
-        size += exrs_size(list, from, to);
-        from = to;
-    }
-    size
+    let last = st.stops[st.count - 1].named as usize;
+    exrs_size(list, 0, last)
 }
 
 // All EXRS of a sequence at the start of a lent buffer, and how many bytes of them each domain has.
