@@ -7,7 +7,6 @@ pub returns : goal.returns
 returns c =
     let reads = c in
     let a = c.args in
-    all_tested (layout_of a.layout) a.s.now a.at a.class a.pair a.tail a.before _ _ _ _ _ _ _
-    c.u32_at-here.ensures c.u32_at-node.ensures
-    c.u32_at-head.ensures c.u32_at-cost.ensures c.u32_at-other.ensures
+    all_tested (layout_of a.layout) a.s.now a.at a.class a.before.pair a.before.tail a.before.head _ _ _ _ _ _ _
+    c.key_at-here.ensures.0 c.key_at-here.ensures.1 c.key_at-here.ensures.2 c.u32_at-cost.ensures c.u32_at-other.ensures
     c.u32_at-bits.ensures c.address_misplaced-misplaced.ensures

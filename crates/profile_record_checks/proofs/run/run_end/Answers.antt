@@ -17,28 +17,8 @@ hop_start-at-requires c =
     let a = c.args in
     hop-within (layout_of a.layout) a.s.now a.first a.hops c.requires.hops_within.0 c.requires.hops_within.1
 
-pub u32_at-pair-requires : goal.u32_at-pair-requires
-u32_at-pair-requires c =
-    let a = c.args in
-    omega (arith, c.hop_start-at.ensures, fields-inside (layout_of a.layout) a.s.now a.first a.hops c.requires.hops_within.0 c.requires.hops_within.1)
-
-pub overflow_add-at : goal.overflow_add-at
-overflow_add-at c =
-    let a = c.args in
-    omega (arith, c.hop_start-at.ensures, fields-inside (layout_of a.layout) a.s.now a.first a.hops c.requires.hops_within.0 c.requires.hops_within.1)
-
-pub u32_at-tail-requires : goal.u32_at-tail-requires
-u32_at-tail-requires c =
-    let a = c.args in
-    omega (arith, c.hop_start-at.ensures, fields-inside (layout_of a.layout) a.s.now a.first a.hops c.requires.hops_within.0 c.requires.hops_within.1)
-
-pub overflow_add-at-2 : goal.overflow_add-at-2
-overflow_add-at-2 c =
-    let a = c.args in
-    omega (arith, c.hop_start-at.ensures, fields-inside (layout_of a.layout) a.s.now a.first a.hops c.requires.hops_within.0 c.requires.hops_within.1)
-
-pub u32_at-before-requires : goal.u32_at-before-requires
-u32_at-before-requires c =
+pub key_at-before-requires : goal.key_at-before-requires
+key_at-before-requires c =
     let a = c.args in
     omega (arith, c.hop_start-at.ensures, fields-inside (layout_of a.layout) a.s.now a.first a.hops c.requires.hops_within.0 c.requires.hops_within.1)
 
@@ -46,7 +26,7 @@ pub loop-i-init : goal.loop-i-init
 loop-i-init c =
     let a = c.args in
     running_start (layout_of a.layout) a.s.now a.first a.hops _ _ _ _ c.requires.hops_within.1 c.requires.first_value c.hop_start-at.ensures
-    c.u32_at-pair.ensures c.u32_at-tail.ensures c.u32_at-before.ensures
+    c.key_at-before.ensures.0 c.key_at-before.ensures.1 c.key_at-before.ensures.2
 
 pub overflow_add-at-in-loop-i : goal.overflow_add-at-in-loop-i
 overflow_add-at-in-loop-i c = omega (arith, next_inside (λ (k : ℕ). (c.type_inv.s k).fits) c.loop-i.invariant c.requires.hops_within.0 (omega arith), c.requires.hops_within.0.layout.fields)
@@ -57,17 +37,17 @@ goes_on-requires c = (c.requires.hops_within.0.layout, next_inside (λ (k : ℕ)
 pub returns-then-not-goes_on : goal.returns-then-not-goes_on
 returns-then-not-goes_on c = running_end (λ (k : ℕ). (c.type_inv.s k).fits) c.loop-i.invariant
 
-pub overflow_add-at-in-loop-i-2 : goal.overflow_add-at-in-loop-i-2
-overflow_add-at-in-loop-i-2 c = omega (arith, next_inside (λ (k : ℕ). (c.type_inv.s k).fits) c.loop-i.invariant c.requires.hops_within.0 (omega arith), c.requires.hops_within.0.layout.fields)
+pub overflow_add-at : goal.overflow_add-at
+overflow_add-at c = omega (arith, next_inside (λ (k : ℕ). (c.type_inv.s k).fits) c.loop-i.invariant c.requires.hops_within.0 (omega arith), c.requires.hops_within.0.layout.fields)
 
-pub u32_at-before-requires-in-loop-i : goal.u32_at-before-requires-in-loop-i
-u32_at-before-requires-in-loop-i c = omega (arith, next_inside (λ (k : ℕ). (c.type_inv.s k).fits) c.loop-i.invariant c.requires.hops_within.0 (omega arith), c.requires.hops_within.0.layout.fields)
+pub u32_at-requires : goal.u32_at-requires
+u32_at-requires c = omega (arith, next_inside (λ (k : ℕ). (c.type_inv.s k).fits) c.loop-i.invariant c.requires.hops_within.0 (omega arith), c.requires.hops_within.0.layout.fields)
 
 pub loop-i-preserved : goal.loop-i-preserved
 loop-i-preserved c =
     let l = c.loop-i in
     running_next (λ (k : ℕ). (c.type_inv.s k).fits) l.invariant c.loop-i-test.true _ _ c.class_of-class.ensures
-    (c.goes_on.ensures c.if-not-goes_on.false) c.u32_at-before-in-loop-i.ensures
+    (c.goes_on.ensures c.if-not-goes_on.false) c.u32_at.ensures
 
 pub returns : goal.returns
 returns c =

@@ -5,4 +5,4 @@ use Rattle.profile_records.specs.Layout.{layout_of}
 use Rattle.profile_record_checks.proofs.run.run_end.Given as goal
 
 abbrev pub invariant-loop-i : goal.invariant-loop-i
-invariant-loop-i l = Running (layout_of l.layout) l.s l.first l.hops l.at l.pair l.tail l.before l.i
+invariant-loop-i l = Running (layout_of l.layout) l.s l.first l.hops l.at l.before.pair l.before.tail l.before.head l.i
