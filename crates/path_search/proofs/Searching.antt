@@ -4,6 +4,9 @@ use mathlib.Core.Path.{◌≡◌, refl, sym, ap, subst, ◌∙◌}
 use mathlib.Core.Bool.{Bool, true, false, not, ◌&&◌, true≢false}
 use mathlib.Core.List.{List, [], ◌∷◌, ◌++◌, head?}
 use mathlib.Core.Option.{Option, none, some}
+use Rattle.std.specs.Prelude.{is_some}
+use Rattle.std.specs.Option.{unwrap_or}
+use Rattle.std.specs.Prelude as maybe
 use Prim.Native.Nat.{ℕ, suc, ◌+◌, ◌≤◌, ◌<◌}
 use native.Mathlib.Nat.{zero-add}
 use native.Mathlib.Omega.{arith}
@@ -12,7 +15,7 @@ use lib.Seq.{length-paste, take_at}
 use borrow.Author.Tests.{eq-eqb, ne_eqb}
 use Rattle.model.specs.declared.Round.{Round}
 use Rattle.model.specs.Lists.{is_empty, below, keep, over}
-use Rattle.model.specs.Profile.{Layout, hops, cost_limit}
+use Rattle.model.specs.Profile.{Layout, cost_limit}
 use Rattle.model.specs.Request.{Search}
 use Rattle.model.specs.Path.{legs, keeps_bound, Route, suffixes, admissible, cheapest, shortest_paths}
 use Rattle.model.specs.Calls.{greater_than}
@@ -40,19 +43,21 @@ use Rattle.tree_rounds.specs.Kept.{kept_by}
 use Rattle.tree_rounds.specs.declared.ChosenRound.{ChosenRound}
 use Rattle.tree_rounds.specs.ChosenRound.{ChosenRoundIs}
 use Rattle.tree_rounds.proofs.Source.{cost-is, small, none_admissible}
-use Rattle.path_step.specs.Worked.{Worked, Stands}
+use Rattle.path_step.specs.declared.WorkedTree.{WorkedTree}
+use Rattle.path_step.specs.Worked.{layout_in, Worked, Stands}
 use Rattle.path_descent.specs.Routes.{is_found, routed, Written}
+use Rattle.path_answers.specs.declared.FoundPath.{FoundPath}
 use Rattle.path_answers.specs.declared.SearchResult.{SearchResult}
-use Rattle.path_answers.specs.SearchResult.{nothing_in, ResultPath, ResultIs}
+use Rattle.path_answers.specs.SearchResult.{nothing_in, found_in, ResultPath, ResultIs}
 use Rattle.path_search.specs.Searched.{ResultFor}
 
 -- what was worked out for a ready query
 pub worked-for
-    : (L : Layout) (s : List ℕ) (lists : Lists) (q : Query) (addresses codes starts firsts lasts : List ℕ) (examined : ℕ)
-    → SoundLayout L → ((i : ℕ) → get_or s i 0 < 256) → Ready L s lists q
-    → WorkedOut L s (search_for L s lists q) addresses codes starts firsts lasts examined
-    → Worked (search_for L s lists q) L s q addresses codes starts firsts lasts
-worked-for L s lists q addresses codes starts firsts lasts examined sound bytes ready out =
+    : (lists : Lists) (T : WorkedTree) (examined : ℕ)
+    → SoundLayout (layout_in T) → ((i : ℕ) → get_or T.profile.now i 0 < 256) → Ready (layout_in T) T.profile.now lists T.query
+    → WorkedOut (layout_in T) T.profile.now (search_for (layout_in T) T.profile.now lists T.query) T.addresses.now T.reaches.now T.starts.now T.firsts.now T.lasts.now examined
+    → Worked (search_for (layout_in T) T.profile.now lists T.query) T
+worked-for lists T examined sound bytes ready out =
     record {
       right = record { layout = sound; passed = ready.profile-right };
       bytes = bytes;
@@ -62,7 +67,7 @@ worked-for L s lists q addresses codes starts firsts lasts examined sound bytes 
       sequence-is = refl;
       limits_are = refl;
       most = ready.most;
-      domains-long = ready.domains-long;
+      stops-long = ready.stops-long;
       examined = examined;
       out = out;
     }
@@ -125,14 +130,12 @@ module _ (L : Layout) (s : List ℕ) (lists : Lists) (q : Query) (cheap : L.most
           : (old : List ℕ) (found : Bool) (path : List ℕ) → old ≡ replicate 17 0
           → Written 0 (next_from S (legs S.sequence) 0 S.source given) old found path
           → found ≡ true
-          → ResultIs S given (suc q.count) (record { round = q.round; found = true; total = here; path = path })
+          → ResultIs S given (suc q.count) (found_in q.round here path)
       unfolding over
       sought old found path zeros w told =
           record {
-            there = λ t. there-is (next_from S (legs S.sequence) 0 S.source given) refl (sym w.says ∙ told);
-            missing = λ f. absurd (true≢false f);
-            nothing_else = λ f. absurd (true≢false f);
-            cells = ap length w.holds ∙ held (next_from S (legs S.sequence) 0 S.source given) refl ∙ ap length zeros;
+            there = λ f e. subst (ResultPath S given (suc q.count)) (ap (λ (o : maybe.Option FoundPath). unwrap_or o f) e) (there-is (next_from S (legs S.sequence) 0 S.source given) refl (sym w.says ∙ told));
+            missing = λ e. absurd (true≢false (ap is_some e));
           }
         where
           held : (o : Option Route) → next_from S (legs S.sequence) 0 S.source given ≡ o → length (routed 0 o old) ≡ length old
@@ -150,7 +153,7 @@ module _ (L : Layout) (s : List ℕ) (lists : Lists) (q : Query) (cheap : L.most
 
           there-is
               : (o : Option Route) → next_from S (legs S.sequence) 0 S.source given ≡ o → is_found o ≡ true
-              → ResultPath S given (suc q.count) (record { round = q.round; found = true; total = here; path = path })
+              → ResultPath S given (suc q.count) (record { total = here; addresses = path })
           there-is none e t = absurd (true≢false (sym t))
           there-is (some r) e t =
               record {
@@ -162,6 +165,7 @@ module _ (L : Layout) (s : List ℕ) (lists : Lists) (q : Query) (cheap : L.most
                     (ap (take (suc q.count)) (written r e)
                     ∙ take_at r.addresses (drop (0 + length r.addresses) old) (suc q.count) (size r e));
                 cells_are = over-start r e;
+                cells = ap length w.holds ∙ held (next_from S (legs S.sequence) 0 S.source given) refl ∙ ap length zeros;
               }
 
       -- and where nothing was, nothing is listed
@@ -176,7 +180,7 @@ module _ (L : Layout) (s : List ℕ) (lists : Lists) (q : Query) (cheap : L.most
 pub result_none : (S : Search) (given : List ℕ) (long : ℕ) (x : Round) (r : SearchResult) → r ≡ nothing_in x → head? (greater_than given (shortest_paths S)) ≡ none → ResultIs S given long r
 result_none S given long x r e none-listed =
     subst (ResultIs S given long) (sym e)
-    (record { there = λ t. absurd (true≢false (sym t)); missing = λ f. none-listed; nothing_else = λ f. refl; cells = refl })
+    (record { there = λ f t. absurd (true≢false (sym (ap is_some t))); missing = λ f. none-listed })
 
 -- a query whose round is settled: what is found for it is what is sought for the given one
 module _ (L : Layout) (s : List ℕ) (lists : Lists) (q : Query) (addresses codes starts firsts lasts : List ℕ) (r : ChosenRound) (is : ChosenRoundIs L s lists q addresses codes starts firsts lasts r) where

@@ -16,79 +16,34 @@ ghost use Rattle.path_search.specs.Searched.{start_of, ResultFor};
 use model::NodeAddress;
 use path_answers::{SearchResult, found_in, nothing_in};
 use path_descent::{first_by, next_after};
-use path_step::Heads;
+use path_step::{Heads, WorkedTree};
 use profile_records::layout::Layout;
 use request::Query;
+use std::cmp::Ordering;
 use tree_rounds::{admissible, settle};
 
-// How a given list starts: before the source (or not at all), with it, or behind it.
-#[derive(Clone, Copy)]
-pub enum Start {
-    Before,
-    Same,
-    Behind,
-}
-
-fn start_of(given: &[u32], source: NodeAddress) -> Start
+// How a given list starts against the source: before it (or not at all), with it, or behind it.
+fn start_of(given: &[u32], source: NodeAddress) -> Ordering
     ensures { result ≡ start_of given.now source.0 }
 {
-    if given.len() == 0 {
-        return Start::Before;
+    match given.first() {
+        None => Ordering::Less,
+        Some(x) => NodeAddress(*x).cmp(&source),
     }
-    let x = given[0];
-    if x < source.0 {
-        return Start::Before;
-    }
-    if x == source.0 {
-        return Start::Same;
-    }
-    Start::Behind
 }
 
 // The first of the cheapest paths above the given list, from the source with `here` left.
-fn above(
-    s: &[u8],
-    layout: Layout,
-    q: Query,
-    here: u32,
-    addresses: &[u32; 242],
-    reaches: &[u32; 242],
-    starts: &[usize; 18],
-    firsts: &[usize; 16],
-    lasts: &[usize; 16],
-    given: &[u32],
-    path: &mut [u32],
-) -> bool
-    requires count_in_bounds { (q.count < length path.old) × (1 ≤ length given.now → length given.now ≡ suc q.count) }
-    requires ways { Ways (layout_of layout) s.now q addresses.now reaches.now starts.now firsts.now lasts.now 0 q.source.0 here }
-    ensures { (S : Search) → Worked S (layout_of layout) s.now q addresses.now reaches.now starts.now firsts.now lasts.now → Stands S 0 q.source.0 here
-        → Written 0 (next_from S (legs_from S 0) 0 q.source.0 given.now) path.old result path.new }
+fn above(tree: &WorkedTree<'_>, here: u32, given: &[u32], path: &mut [u32]) -> bool
+    requires count_in_bounds { (tree.now.query.count < length path.old) × (1 ≤ length given.now → length given.now ≡ suc tree.now.query.count) }
+    requires ways { Ways tree.now 0 tree.now.query.source.0 here }
+    ensures { (S : Search) → Worked S tree.now → Stands S 0 tree.now.query.source.0 here
+        → Written 0 (next_from S (legs_from S 0) 0 tree.now.query.source.0 given.now) path.old result path.new }
 {
-    let source = q.source;
-    let count = q.count;
-    let start = start_of(given, source);
-    match start {
-        Start::Before => first_by(
-            s,
-            layout,
-            q,
-            0,
-            count,
-            source,
-            here,
-            Heads::Any,
-            addresses,
-            reaches,
-            starts,
-            firsts,
-            lasts,
-            path,
-        ),
-        Start::Same => next_after(
-            s, layout, q, 0, count, source, here, addresses, reaches, starts, firsts, lasts, given,
-            path,
-        ),
-        Start::Behind => false,
+    let source = tree.query.source;
+    match start_of(given, source) {
+        Ordering::Less => first_by(tree, 0, source, here, Heads::Any, path),
+        Ordering::Equal => next_after(tree, 0, source, here, given, path),
+        Ordering::Greater => false,
     }
 }
 
@@ -110,7 +65,6 @@ pub fn search(
     let mut starts = [0usize; 18];
     let mut firsts = [0usize; 16];
     let mut lasts = [0usize; 16];
-    let mut path = [0u32; 17];
     let settled = settle(
         s,
         layout,
@@ -126,14 +80,21 @@ pub fn search(
     let here = reaches[0];
     let query = settled.query;
     let round = query.round;
-    let limits = query.limits;
-    if !admissible(limits, here) {
+    if !admissible(query.limits, here) {
         return nothing_in(round);
     }
-    let found = above(
-        s, layout, query, here, &addresses, &reaches, &starts, &firsts, &lasts, given, &mut path,
-    );
-    if !found {
+    let tree = WorkedTree {
+        profile: s,
+        layout,
+        query,
+        addresses: &addresses,
+        reaches: &reaches,
+        starts: &starts,
+        firsts: &firsts,
+        lasts: &lasts,
+    };
+    let mut path = [0u32; 17];
+    if !above(&tree, here, given, &mut path) {
         return nothing_in(round);
     }
     found_in(round, here, path)
