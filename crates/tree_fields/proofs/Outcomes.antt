@@ -7,12 +7,12 @@ use mathlib.Core.List.{List, Memᴰ}
 use lib.ListN.{length, get_or}
 use lib.Dec.{ltb}
 use borrow.Author.Tests.{ltb-true, ltb-false, lt-ltb, le-ltb}
+use Rattle.std.specs.Prelude.{Result, Ok, Err}
 use Rattle.model.specs.declared.Hop.{Hop}
 use Rattle.model.specs.declared.Refusal.{Refusal}
 use Rattle.model.specs.declared.Round.{Round}
 use Rattle.model.specs.declared.Round.TheVariants.{First, Second}
 use Rattle.model.specs.declared.TreeEntry.{TreeEntry}
-use Rattle.model.specs.declared.TreeAnswer.TheVariants.{Built}
 use Rattle.model.specs.Verdict.{refuse_if}
 use Rattle.model.specs.Profile.{layout_in, cost_limit}
 use Rattle.model.specs.Sequence.{Stop, Reading}
@@ -33,31 +33,9 @@ use Rattle.tree_levels.specs.Levels.{start_of}
 use Rattle.tree_rounds.specs.declared.ChosenRound.{ChosenRound}
 use Rattle.tree_rounds.specs.ChosenRound.{ChosenRoundIs}
 use Rattle.tree_vspt.proofs.Sequences.{stops-long}
-use Rattle.tree_fields.specs.Fields.{levels_of}
 use Rattle.tree_fields.specs.declared.TreeResult.{TreeResult}
-use Rattle.tree_fields.specs.TreeResult.{refused_by, told_by, tree_outcome, tree_for, Held, TreeResultIs}
+use Rattle.tree_fields.specs.TreeResult.{told_by, tree_outcome, tree_for, Held, TreeResultIs}
 use Rattle.tree_fields.proofs.Whole.{tree-length, most, starts_at, held}
-use Rattle.model.specs.Lists.{count_from, each}
-
--- nothing is written, whatever the lists hold
-pub refused-outcome : (r : Refusal) (room : ℕ) (addresses codes starts : List ℕ) → TreeResultIs (nothing (refused4 r)) room addresses codes starts (refused_by r)
-unfolding levels_of each count_from
-refused-outcome r room addresses codes starts =
-    record {
-      numbers = refl;
-      most = omega arith;
-      fits = omega arith;
-      held =
-          record {
-            in_order = record { few = omega arith; start_is = λ i h. absurd (omega arith); ascends = λ i h. absurd (omega arith); fits = λ i h. absurd (omega arith) };
-            in_addresses = omega arith;
-            in_codes = omega arith;
-            levels_are = refl;
-            addresses_are = refl;
-            marks_are = refl;
-            costs_are = refl;
-          };
-    }
 
 -- ---- a query whose round is settled and whose tree is worked out in it
 
@@ -100,29 +78,27 @@ module _
         twice Second n = omega arith
 
     -- what is said of the settled query is said of the given one
-    given_query : (x : TreeResult) → TreeResultIs (tree_outcome p.round S room) room addresses codes starts x → TreeResultIs (tree_for s lists q room) room addresses codes starts x
+    given_query : (x : Result TreeResult Refusal) → TreeResultIs (tree_outcome p.round S room) room addresses codes starts x → TreeResultIs (tree_for s lists q room) room addresses codes starts x
     given_query x = subst (λ (y : Query). TreeResultIs (tree_outcome y.round (search_for (layout_in s) s lists y) room) room addresses codes starts x) is.query_is
 
-    too_small : room < get_or starts p.count 0 → TreeResultIs (tree_for s lists q room) room addresses codes starts (refused_by (record { number = 34; place = 0 }))
+    too_small : room < get_or starts p.count 0 → TreeResultIs (tree_for s lists q room) room addresses codes starts (Err (record { number = 34; place = 0 }))
     too_small h =
         let e : room < length (tree S) = omega (arith, counted, tree-length S) in
-        given_query (refused_by (record { number = 34; place = 0 }))
-        (subst (λ (o : Outcome TreeEntry). TreeResultIs o room addresses codes starts (refused_by (record { number = 34; place = 0 })))
-        (sym (ap (λ (b : Bool). answer_tree (refuse_if b 34 0) p.round S) (lt-ltb room (length (tree S)) e)))
-        (refused-outcome (record { number = 34; place = 0 }) room addresses codes starts))
+        given_query (Err (record { number = 34; place = 0 }))
+        (ap (λ (b : Bool). answer_tree (refuse_if b 34 0) p.round S) (lt-ltb room (length (tree S)) e))
 
     -- the whole tree
     abbrev all : TreeResult
-    all = record { answer = Built (get_or starts p.count 0) r.tally p.round; count = get_or starts p.count 0; places = p.count }
+    all = record { built = record { entries = get_or starts p.count 0; tally = r.tally; round = p.round }; places = p.count }
 
     tally-is : r.tally ≡ over_rounds p.round (tally S)
     tally-is = is.tally-is ∙ ap₂ over_rounds (sym (ap (λ (y : Query). y.round) is.query_is)) is.worked.laid.tally-is
 
-    enough : get_or starts p.count 0 ≤ room → TreeResultIs (tree_for s lists q room) room addresses codes starts all
+    enough : get_or starts p.count 0 ≤ room → TreeResultIs (tree_for s lists q room) room addresses codes starts (Ok all)
     enough h =
         let e : length (tree S) ≤ room = omega (arith, counted, tree-length S) in
-        given_query all
-        (subst (λ (o : Outcome TreeEntry). TreeResultIs o room addresses codes starts all)
+        given_query (Ok all)
+        (subst (λ (o : Outcome TreeEntry). TreeResultIs o room addresses codes starts (Ok all))
         (sym (ap (λ (b : Bool). answer_tree (refuse_if b 34 0) p.round S) (le-ltb room (length (tree S)) e)))
         (record {
           numbers = ap₂ (λ (n m : ℕ). done4 n m p.round) (counted ∙ sym (tree-length S)) tally-is;

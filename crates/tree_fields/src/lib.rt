@@ -8,55 +8,45 @@ ghost use Rattle.laws.specs.Lists.{lists_of};
 ghost use Rattle.request.specs.CheckedRequest.{request_for};
 ghost use Rattle.request.specs.Query.{Ready};
 ghost use Rattle.buffers.specs.Capacity.{least4};
-ghost use Rattle.tree_fields.specs.TreeResult.{refused_by, told_by, tree_for, TreeResultIs, TreeIn};
+ghost use Rattle.tree_fields.specs.TreeResult.{told_by, tree_for, TreeResultIs, TreeIn};
 
 use crate::put::{put_addresses, put_costs, put_levels, put_marks};
 use buffers::lesser;
-use model::{Refusal, Round, TreeAnswer, Verdict};
+use model::{BuiltTree, Reason, Refusal, Round};
 use profile_records::layout::layout_in;
+use refusal::refuse_if;
 use request::{Asked, Query, check_request};
 use tree_rounds::settle;
 
 pub mod put;
 
-// A tree in numbers: the answer, how many entries are to be written and how many places they have; nothing on a refusal.
+// A tree in numbers: what is told of it, and how many places its entries have.
 #[derive(Clone, Copy)]
 pub struct TreeResult {
-    pub answer: TreeAnswer,
-    pub count: usize,
+    pub built: BuiltTree,
     pub places: usize,
 }
 
-fn refused(r: Refusal) -> TreeResult
-    ensures { result ≡ refused_by r }
-{
-    TreeResult {
-        answer: TreeAnswer::Refused(r),
-        count: 0,
-        places: 0,
-    }
-}
-
 // A tree of so many entries is told, or that there is too little room for it.
-fn told(count: usize, places: usize, tally: usize, round: Round, room: usize) -> TreeResult
+fn told(
+    count: usize,
+    places: usize,
+    tally: usize,
+    round: Round,
+    room: usize,
+) -> Result<TreeResult, Refusal>
     requires { (count ≤ 241) × (tally ≤ 6000) }
     ensures { result ≡ told_by (ltb room count) count places tally round }
 {
-    if room < count {
-        return refused(Refusal {
-            number: 34,
-            place: 0,
-        });
-    }
-    TreeResult {
-        answer: TreeAnswer::Built {
+    refuse_if(room < count, Reason::LittleRoom, 0)?;
+    Ok(TreeResult {
+        built: BuiltTree {
             entries: count as u32,
             tally: tally as u32,
             round,
         },
-        count,
         places,
-    }
+    })
 }
 
 // The tree of a query in the round that applies, and whether there is room for it.
@@ -69,7 +59,7 @@ fn solve_query(
     addresses: &mut [u32; 242],
     reaches: &mut [u32; 242],
     starts: &mut [usize; 18],
-) -> TreeResult
+) -> Result<TreeResult, Refusal>
     requires ready { Ready (layout_in profile.now) profile.now (lists_of include.now exclude.now) q }
     requires addresses_len { (length addresses.old ≡ 242) × (length reaches.old ≡ 242) × (length starts.old ≡ 18) }
     ensures { TreeResultIs (tree_for profile.now (lists_of include.now exclude.now) q room) room addresses.new reaches.new starts.new result }
@@ -89,11 +79,9 @@ fn solve_query(
         &mut firsts,
         &mut lasts,
     );
-    let query = settled.query;
-    let places = query.count;
-    let round = query.round;
-    let count = starts[places];
-    told(count, places, settled.tally, round, room)
+    let places = settled.query.count;
+    let round = settled.query.round;
+    told(starts[places], places, settled.tally, round, room)
 }
 
 // The tree of a request in numbers: every check before 34, the tree, and 34.
@@ -106,16 +94,11 @@ pub fn solve(
     addresses: &mut [u32; 242],
     reaches: &mut [u32; 242],
     starts: &mut [usize; 18],
-) -> TreeResult
+) -> Result<TreeResult, Refusal>
     requires { (length addresses.old ≡ 242) × (length reaches.old ≡ 242) × (length starts.old ≡ 18) }
     ensures { TreeResultIs (build_tree (request_for profile.now asked include.now exclude.now) room) room addresses.new reaches.new starts.new result }
 {
-    let checked = check_request(profile, asked, include, exclude);
-    let verdict = checked.verdict;
-    if let Verdict::Refuse(r) = verdict {
-        return refused(r);
-    }
-    let q = checked.query;
+    let q = check_request(profile, asked, include, exclude)?;
     solve_query(
         profile, include, exclude, q, room, addresses, reaches, starts,
     )
@@ -131,7 +114,7 @@ pub fn tree_numbers(
     address: &mut [u32],
     reachable: &mut [u8],
     cost: &mut [u32],
-) -> TreeAnswer
+) -> Result<BuiltTree, Refusal>
     ensures { TreeIn (build_tree (request_for profile.now asked include.now exclude.now) (least4 level.old address.old reachable.old cost.old)) level.old address.old reachable.old cost.old result level.new address.new reachable.new cost.new }
 {
     let mut addresses = [0u32; 242];
@@ -150,12 +133,11 @@ pub fn tree_numbers(
         &mut addresses,
         &mut reaches,
         &mut starts,
-    );
-    let answer = solved.answer;
-    let n = solved.count;
+    )?;
+    let n = solved.built.entries as usize;
     put_levels(&starts, solved.places, level);
     put_addresses(&addresses, n, address);
     put_marks(&reaches, n, reachable);
     put_costs(&reaches, n, cost);
-    answer
+    Ok(solved.built)
 }

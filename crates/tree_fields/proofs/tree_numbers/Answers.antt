@@ -1,51 +1,34 @@
--- `tree_fields::tree_numbers` meets its contract: what `solve` leaves is put into the buffers, each of which has the room.
-use mathlib.Core.Path.{subst, ap₂, ◌∙◌}
-use Prim.Native.Nat.{ℕ, min}
-use native.Mathlib.Omega.{arith}
-use lib.ListN.{length}
-use Rattle.model.specs.Request.{Request}
-use Rattle.model.specs.Calls.{build_tree}
-use Rattle.request.specs.CheckedRequest.{request_for}
+-- `tree_fields::tree_numbers` meets its contract: on a refusal nothing is put into the buffers.
+use mathlib.Core.Path.{◌≡◌, refl, sym, ap, subst, ap₂, ◌∙◌}
+use Prim.Native.Nat.{min}
+use borrow.Author.Rules.{rules}
+use Rattle.std.specs.Prelude.{Result, Err}
+use Rattle.model.specs.declared.BuiltTree.{BuiltTree}
+use Rattle.model.specs.declared.Refusal.{Refusal}
+use Rattle.model.specs.declared.TreeEntry.{TreeEntry}
+use Rattle.model.specs.Calls.{build_tree, Outcome}
+use Rattle.laws.proofs.Lists.{over_nothing}
 use Rattle.buffers.specs.Capacity.{least4}
-use Rattle.tree_fields.specs.TreeResult.{TreeResultIs}
-use Rattle.tree_fields.proofs.Over.{places-within, levels-over, addresses-over, marks-over, costs-over}
+use Rattle.request.specs.CheckedRequest.{request_for}
+use Rattle.tree_fields.specs.TreeResult.{TreeResultIs, TreeIn}
 use Rattle.tree_fields.proofs.tree_numbers.Goals as goal
-use Rattle.tree_fields.proofs.tree_numbers.Goals.{After-solve-solved, Start}
 
-abbrev request : Start → Request
-request c = request_for c.args.profile.now c.args.asked c.args.include.now c.args.exclude.now
-
-abbrev room : Start → ℕ
-room c = least4 c.args.level.now c.args.address.now c.args.reachable.now c.args.cost.now
-
--- what is solved, for the capacity of the four buffers
-solved
-    : (c : After-solve-solved)
-    → TreeResultIs (build_tree (request (goal.at.After-solve-solved c).Start) (room (goal.at.After-solve-solved c).Start)) (room (goal.at.After-solve-solved c).Start) c.solve-solved.new.addresses c.solve-solved.new.reaches c.solve-solved.new.starts c.solve-solved.result
-solved c =
-    let l = c.solve-solved.new in
-    subst (λ (n : ℕ). TreeResultIs (build_tree (request (goal.at.After-solve-solved c).Start) n) n l.addresses l.reaches l.starts c.solve-solved.result)
-    (c.lesser-room.ensures ∙ ap₂ min c.lesser.ensures c.lesser-2.ensures)
-    c.solve-solved.ensures
-
-pub put_levels-requires : goal.put_levels-requires
-put_levels-requires c =
-    let r = c.solve-solved.result in
-    let is = solved (goal.at.put_levels-requires c).After-solve-solved in
-    places-within r.places _ r.count (length c.args.level.now) is.held.in_order (omega (arith, is.fits))
-
-pub returns : goal.returns
-returns c =
+pub returns-in_err-solved : goal.returns-in_err-solved
+returns-in_err-solved c =
     let a = c.args in
-    let w = (build_tree (request (goal.at.returns c).Start) (room (goal.at.returns c).Start)).written in
-    let r = c.solve-solved.result in
-    let l = c.solve-solved.new in
-    let is = solved (goal.at.returns c).After-solve-solved in
-    let h = is.held in
-    record {
-      numbers = is.numbers;
-      in_levels = levels-over w r.places r.count l.addresses l.reaches l.starts h a.level.now _ c.put_levels.ensures;
-      in_addresses = addresses-over w r.places r.count l.addresses l.reaches l.starts h a.address.now _ c.put_addresses.ensures;
-      in_marks = marks-over w r.places r.count l.addresses l.reaches l.starts h a.reachable.now _ c.put_marks.ensures;
-      in_costs = costs-over w r.places r.count l.addresses l.reaches l.starts h a.cost.now _ c.put_costs.ensures;
-    }
+    let l = c.solve.new in
+    let why = c.in_err-solved.field-0.0 in
+    let req = request_for a.profile.now a.asked a.include.now a.exclude.now in
+    let same : c.from_residual.result ≡ Err why = search rules in
+    let refused =
+    subst (TreeResultIs (build_tree req c.lesser-room.result) c.lesser-room.result l.addresses l.reaches l.starts) c.in_err-solved.was c.solve.ensures in
+    subst (λ (r : Result BuiltTree Refusal). TreeIn (build_tree req (least4 a.level.now a.address.now a.reachable.now a.cost.now)) a.level.now a.address.now a.reachable.now a.cost.now r a.level.now a.address.now a.reachable.now a.cost.now) (sym same)
+    (subst (λ (o : Outcome TreeEntry). TreeIn o a.level.now a.address.now a.reachable.now a.cost.now (Err why) a.level.now a.address.now a.reachable.now a.cost.now)
+    (sym (ap (build_tree req) (sym (c.lesser-room.ensures ∙ ap₂ min c.lesser.ensures c.lesser-2.ensures)) ∙ refused))
+    (record {
+      numbers = refl;
+      in_levels = sym (over_nothing a.level.now);
+      in_addresses = sym (over_nothing a.address.now);
+      in_marks = sym (over_nothing a.reachable.now);
+      in_costs = sym (over_nothing a.cost.now);
+    }))
