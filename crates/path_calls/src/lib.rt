@@ -10,7 +10,7 @@ ghost use Rattle.path_answers.specs.Numbers.{Real};
 
 use crate::routes::{first_route, next_route};
 use buffers::put_first;
-use model::PathAnswer;
+use model::{PathAnswer, Refusal};
 use path_answers::PathReply;
 use request::Asked;
 
@@ -21,8 +21,7 @@ fn hand_out(reply: PathReply, path: &mut [u32]) -> PathAnswer
     requires { (reply.count ≤ length reply.path) × (reply.count ≤ length path.old) }
     ensures { (result ≡ reply.answer) × (path.new ≡ over (take reply.count reply.path) path.old) }
 {
-    let addresses = reply.path;
-    put_first(&addresses, reply.count, path);
+    put_first(&reply.path, reply.count, path);
     reply.answer
 }
 
@@ -33,13 +32,13 @@ pub fn first(
     include: &[u8],
     exclude: &[u8],
     path: &mut [u32],
-) -> PathAnswer
+) -> Result<PathAnswer, Refusal>
     ensures real { Real result }
     ensures result_value { numbers_of_path result ≡ (Calls.first (request_for profile.now asked include.now exclude.now) (length path.old)).numbers }
     ensures path_after { path.new ≡ over (Calls.first (request_for profile.now asked include.now exclude.now) (length path.old)).written path.old }
 {
-    let reply = first_route(profile, asked, include, exclude, path.len());
-    hand_out(reply, path)
+    let reply = first_route(profile, asked, include, exclude, path.len())?;
+    Ok(hand_out(reply, path))
 }
 
 // The next of the shortest paths after a given list, which need not be a path.
@@ -50,11 +49,11 @@ pub fn next(
     exclude: &[u8],
     given: &[u32],
     path: &mut [u32],
-) -> PathAnswer
+) -> Result<PathAnswer, Refusal>
     ensures real { Real result }
     ensures result_value { numbers_of_path result ≡ (Calls.next (request_for profile.now asked include.now exclude.now) given.now (length path.old)).numbers }
     ensures path_after { path.new ≡ over (Calls.next (request_for profile.now asked include.now exclude.now) given.now (length path.old)).written path.old }
 {
-    let reply = next_route(profile, asked, include, exclude, given, path.len());
-    hand_out(reply, path)
+    let reply = next_route(profile, asked, include, exclude, given, path.len())?;
+    Ok(hand_out(reply, path))
 }

@@ -1,5 +1,5 @@
 // First and next by value: the checks in document 01's order, then the search.
-ghost use Rattle.std.specs.Prelude.{◌≡◌, ℕ, suc, ◌≤◌, length};
+ghost use Rattle.std.specs.Prelude.{◌≡◌, ℕ, suc, ◌≤◌, length, Ok};
 ghost use Rattle.model.specs.Path.{shortest_paths};
 ghost use Rattle.model.specs.Profile.{layout_in};
 ghost use Rattle.model.specs.Calls.{first_of, greater_than, first, next};
@@ -8,9 +8,9 @@ ghost use Rattle.request.specs.CheckedRequest.{request_for};
 ghost use Rattle.request.specs.Query.{search_for, in_round, round_for, Ready};
 ghost use Rattle.path_answers.specs.PathReply.{none_number, ReplyIs};
 
-use model::Verdict;
+use model::Refusal;
 use path_answers::lent::{given_verdict, room_verdict};
-use path_answers::{PathReply, answered, refused};
+use path_answers::{PathReply, answered};
 use path_search::search;
 use profile_records::layout::layout_in;
 use request::{Asked, Query, check_request};
@@ -25,7 +25,7 @@ fn sought_route(
     again: bool,
 ) -> PathReply
     requires { Ready (layout_in profile.now) profile.now (lists_of include.now exclude.now) q × (1 ≤ length given.now → length given.now ≡ suc q.count) }
-    ensures { (room : ℕ) → suc q.count ≤ room → ReplyIs (first_of (round_for (layout_in profile.now) profile.now (lists_of include.now exclude.now) q) (none_number again) (greater_than given.now (shortest_paths (search_for (layout_in profile.now) profile.now (lists_of include.now exclude.now) (in_round (round_for (layout_in profile.now) profile.now (lists_of include.now exclude.now) q) q))))) room result }
+    ensures { (room : ℕ) → suc q.count ≤ room → ReplyIs (first_of (round_for (layout_in profile.now) profile.now (lists_of include.now exclude.now) q) (none_number again) (greater_than given.now (shortest_paths (search_for (layout_in profile.now) profile.now (lists_of include.now exclude.now) (in_round (round_for (layout_in profile.now) profile.now (lists_of include.now exclude.now) q) q))))) room (Ok result) }
 {
     let layout = layout_in(profile);
     let sought = search(profile, layout, include, exclude, q, given);
@@ -39,21 +39,12 @@ pub fn first_route(
     include: &[u8],
     exclude: &[u8],
     room: usize,
-) -> PathReply
+) -> Result<PathReply, Refusal>
     ensures { ReplyIs (first (request_for profile.now asked include.now exclude.now) room) room result }
 {
-    let checked = check_request(profile, asked, include, exclude);
-    let verdict = checked.verdict;
-    if let Verdict::Refuse(r) = verdict {
-        return refused(r);
-    }
-    let q = checked.query;
-    let fits = room_verdict(q.count, room);
-    if let Verdict::Refuse(r) = fits {
-        return refused(r);
-    }
-    let nothing = [0u32; 0];
-    sought_route(profile, include, exclude, q, &nothing, false)
+    let q = check_request(profile, asked, include, exclude)?;
+    room_verdict(q.count, room)?;
+    Ok(sought_route(profile, include, exclude, q, &[], false))
 }
 
 // The next of the shortest paths after a given list of addresses, whether or not that is itself a path.
@@ -64,18 +55,10 @@ pub fn next_route(
     exclude: &[u8],
     given: &[u32],
     room: usize,
-) -> PathReply
+) -> Result<PathReply, Refusal>
     ensures { ReplyIs (next (request_for profile.now asked include.now exclude.now) given.now room) room result }
 {
-    let checked = check_request(profile, asked, include, exclude);
-    let verdict = checked.verdict;
-    if let Verdict::Refuse(r) = verdict {
-        return refused(r);
-    }
-    let q = checked.query;
-    let fits = given_verdict(given.len(), q.count, room);
-    if let Verdict::Refuse(r) = fits {
-        return refused(r);
-    }
-    sought_route(profile, include, exclude, q, given, true)
+    let q = check_request(profile, asked, include, exclude)?;
+    given_verdict(given.len(), q.count, room)?;
+    Ok(sought_route(profile, include, exclude, q, given, true))
 }

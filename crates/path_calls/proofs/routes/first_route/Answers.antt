@@ -1,27 +1,36 @@
 -- `path_calls::routes::first_route` meets its contract, check by check in document 01's order.
-use mathlib.Core.Path.{sym, subst, ◌∙◌}
+use mathlib.Core.Path.{◌≡◌, sym, subst, ◌∙◌}
 use Prim.Native.Nat.{ℕ, suc}
-use native.Mathlib.Omega.{arith}
+use borrow.Author.Rules.{rules}
+use Rattle.std.specs.Prelude.{Ok, Err}
 use Rattle.model.specs.Calls.{Outcome}
 use Rattle.path_answers.specs.PathReply.{ReplyIs}
 use Rattle.path_calls.proofs.Outcomes.{first_refused, first_unlent, first_searched, room-there}
 use Rattle.path_calls.proofs.routes.first_route.Goals as goal
 
-pub returns-in-Refuse : goal.returns-in-Refuse
-returns-in-Refuse c =
+pub returns-in_err-q : goal.returns-in_err-q
+returns-in_err-q c =
     let a = c.args in
-    subst (λ (o : Outcome ℕ). ReplyIs o a.room c.refused.result) (sym (first_refused a.profile.now a.asked a.include.now a.exclude.now c.check_request-checked.result c.check_request-checked.ensures a.room _ c.in-Refuse.is)) (c.refused.ensures a.room)
+    let why = c.in_err-q.field-0.0 in
+    let known = c in
+    let out : c.from_residual.result ≡ Err why = search rules in
+    subst (ReplyIs _ a.room) (sym out) (first_refused a.profile.now a.asked a.include.now a.exclude.now _ c.check_request.ensures a.room why (c.in_err-q.was))
 
-pub returns-in-Refuse-fits : goal.returns-in-Refuse-fits
-returns-in-Refuse-fits c =
+pub returns-in_err-room_verdict : goal.returns-in_err-room_verdict
+returns-in_err-room_verdict c =
     let a = c.args in
-    subst (λ (o : Outcome ℕ). ReplyIs o a.room c.refused-in-Refuse-fits.result) (sym (first_unlent a.profile.now a.asked a.include.now a.exclude.now c.check_request-checked.result c.check_request-checked.ensures a.room _ c.in_default.is (sym c.room_verdict-fits.ensures ∙ c.in-Refuse-fits.is))) (c.refused-in-Refuse-fits.ensures a.room)
-
-pub sought_route-requires : goal.sought_route-requires
-sought_route-requires c = (c.check_request-checked.ensures.ready c.in_default.is, λ h. absurd (omega arith))
+    let why = c.in_err-room_verdict.field-0.0 in
+    let known = c in
+    let out : c.from_residual-in_err-room_verdict.result ≡ Err why = search rules in
+    subst (ReplyIs _ a.room) (sym out)
+    (first_unlent a.profile.now a.asked a.include.now a.exclude.now _ c.check_request.ensures a.room c.in_ok-q.q (c.in_ok-q.was) why
+    (sym c.room_verdict.ensures ∙ c.in_err-room_verdict.was))
 
 pub returns : goal.returns
 returns c =
     let a = c.args in
-    let fits = sym c.room_verdict-fits.ensures ∙ c.in_default-fits.is in
-    subst (λ (o : Outcome ℕ). ReplyIs o a.room c.sought_route.result) (sym (first_searched a.profile.now a.asked a.include.now a.exclude.now c.check_request-checked.result c.check_request-checked.ensures a.room c.in_default.is fits)) (c.sought_route.ensures a.room (room-there (suc c.check_request-checked.result.query.count) a.room fits))
+    let q = c.in_ok-q.q in
+    let fits = sym c.room_verdict.ensures ∙ c.in_ok-room_verdict.was in
+    subst (λ (o : Outcome ℕ). ReplyIs o a.room (Ok c.sought_route.result))
+    (sym (first_searched a.profile.now a.asked a.include.now a.exclude.now _ c.check_request.ensures a.room q (c.in_ok-q.was) fits))
+    (c.sought_route.ensures a.room (room-there (suc q.count) a.room fits))

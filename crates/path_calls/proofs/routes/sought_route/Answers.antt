@@ -1,5 +1,6 @@
 -- `path_calls::routes::sought_route` meets its contract: the search is that of the layout that the profile says.
 use mathlib.Core.Path.{sym, subst}
+use Rattle.std.specs.Prelude.{Ok}
 use native.Mathlib.Omega.{arith}
 use Rattle.model.specs.declared.Round.{Round}
 use Rattle.model.specs.Profile.{Layout, layout_in}
@@ -37,5 +38,5 @@ returns c =
     let for = subst (λ (L : Layout). ResultFor L a.profile.now lists a.q a.given.now x.result) c.layout_in-layout.ensures x.ensures in
     let S = search_for (layout_in a.profile.now) a.profile.now lists (in_round (round_for (layout_in a.profile.now) a.profile.now lists a.q) a.q) in
     λ room fits.
-    subst (λ (y : Round). ReplyIs (first_of y (none_number a.again) (greater_than a.given.now (shortest_paths S))) room c.answered.result) for.round_is
+    subst (λ (y : Round). ReplyIs (first_of y (none_number a.again) (greater_than a.given.now (shortest_paths S))) room (Ok c.answered.result)) for.round_is
     (c.answered.ensures S a.given.now room for.is fits)
