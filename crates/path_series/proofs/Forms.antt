@@ -1,5 +1,5 @@
--- The tests of a series' arguments, an element at a time: a kind that is unknown, and sizes that add up. From the library's facts on `drop`.
-use Prim.Native.Nat.{ℕ, suc, ◌+◌, ◌*◌, ◌/◌, ◌≤◌, ◌<◌}
+-- The tests of a series' arguments: sizes that add up, one at a time, and what well formed arguments are. From the library's facts on `drop`.
+use Prim.Native.Nat.{ℕ, ◌+◌, ◌*◌, ◌/◌, ◌≤◌, ◌<◌}
 use native.Mathlib.Numerals.{add-one}
 use native.Mathlib.Omega.{arith}
 use mathlib.Core.Path.{◌≡◌, refl, sym, ap, ◌∙◌}
@@ -12,21 +12,6 @@ use borrow.Author.Tests.{eq-eqb, ne_eqb, lt-ltb, le-ltb, eqb-true, eqb-false, lt
 use Rattle.model.specs.Lists.{any, sum}
 use Rattle.laws.proofs.Tests.{or_left, or_right, or_neither}
 use Rattle.path_series.specs.Calls.{unknown, malformed}
-
--- ---- an unknown kind
-
-module _ (kinds : List ℕ) (i : ℕ) (h : i < length kinds) where
-  any_here : any unknown (drop i kinds) ≡ (ltb 1 (get_or kinds i 0) || any unknown (drop (suc i) kinds))
-  any_here = ap (any unknown) (drop-cons kinds i 0 h)
-
-  pub kind-unknown : 1 < get_or kinds i 0 → any unknown (drop i kinds) ≡ true
-  kind-unknown k = any_here ∙ or_left (ltb 1 (get_or kinds i 0)) (any unknown (drop (suc i) kinds)) (lt-ltb 1 (get_or kinds i 0) k)
-
-  pub kind-known : get_or kinds i 0 ≤ 1 → any unknown (drop i kinds) ≡ any unknown (drop (i + 1) kinds)
-  kind-known k = rw add-one (any_here ∙ ap (λ (b : Bool). b || any unknown (drop (suc i) kinds)) (le-ltb 1 (get_or kinds i 0) k))
-
-pub kinds-known : (kinds : List ℕ) (i : ℕ) → length kinds ≤ i → any unknown (drop i kinds) ≡ false
-kinds-known kinds i h = ap (any unknown) (drop_of_length-le kinds h)
 
 -- ---- sizes
 

@@ -8,12 +8,12 @@ use Rattle.model.specs.Request.{Request}
 use Rattle.model.specs.Series.{Reply, run}
 use Rattle.laws.proofs.BigEndian.{Bytes}
 use Rattle.laws.proofs.Claims.{series-replies}
-use Rattle.path_series.specs.declared.SeriesAnswer.TheVariants.{Done, Malformed}
+use Rattle.std.specs.Prelude.{Ok, Err}
 use Rattle.path_series.specs.Calls.{calls_of, malformed}
 use Rattle.path_series.specs.Runs.{Left, answer_if, LeftIf, RunIs}
 
 module _ (r : Request) (kinds sizes buffers numbers : List ℕ) where
-  pub nothing_run : malformed kinds sizes (length buffers) (length numbers) ≡ true → RunIs r kinds sizes buffers numbers Malformed buffers numbers
+  pub nothing_run : malformed kinds sizes (length buffers) (length numbers) ≡ true → RunIs r kinds sizes buffers numbers (Err _) buffers numbers
   nothing_run e =
       record {
         told = sym (ap answer_if e);
@@ -22,7 +22,7 @@ module _ (r : Request) (kinds sizes buffers numbers : List ℕ) where
 
   pub all_run : malformed kinds sizes (length buffers) (length numbers) ≡ false → Bytes r.profile
       → (buffers' numbers' : List ℕ) → Left (run r [] (calls_of kinds sizes buffers)) numbers buffers' numbers'
-      → RunIs r kinds sizes buffers numbers Done buffers' numbers'
+      → RunIs r kinds sizes buffers numbers (Ok tt) buffers' numbers'
   all_run e bytes buffers' numbers' left =
       record {
         told = sym (ap answer_if e);

@@ -4,23 +4,27 @@ use Prim.Native.Nat.{ℕ, suc, ◌+◌, ◌*◌, ◌≤◌, ◌<◌}
 use native.Mathlib.Numerals.{add-one}
 use native.Mathlib.Omega.{arith}
 use mathlib.Core.Path.{◌≡◌, refl, sym, ap, ap₂, ◌∙◌}
-use mathlib.Core.Bool.{Bool, true, false}
+use mathlib.Core.Bool.{Bool, true, false, true≢false}
+use Rattle.std.specs.Prelude.{Result, Ok, Err}
+use Rattle.std.specs.Result.{is_ok}
 use mathlib.Core.List.{List, [], ◌∷◌, ◌++◌, append_assoc, append-nil}
 use lib.Dec.{eqb}
 use lib.ListN.{length, get_or, take, drop, take-append-drop, drop_of_length-le, length-drop}
 use lib.Seq.{length-take-le, take_all, drop-cons, drop-drop, slice_empty, length-paste}
 use Rattle.model.specs.declared.PathAnswer.{PathAnswer}
-use Rattle.model.specs.declared.PathAnswer.TheVariants.{Found, NoPath, End, Refused}
+use Rattle.model.specs.declared.PathAnswer.TheVariants.{Found, NoPath, End}
+use Rattle.model.specs.declared.Refusal.{Refusal}
 use Rattle.model.specs.Lists.{each, over, sum}
 use Rattle.model.specs.Request.{Request}
 use Rattle.model.specs.Answers.{Numbers, numbers_of_path}
+use Rattle.model.specs.Calls.{Outcome}
 use Rattle.model.specs.Series.{Call, Reply, reply_to, call_outcome, last_after, run}
 use Rattle.path_answers.specs.declared.PathReply.{PathReply}
 use Rattle.path_answers.specs.PathReply.{ReplyIs}
 use Rattle.path_series.specs.Calls.{kind_of, calls_of}
-use Rattle.path_answers.specs.Numbers.{five_of}
+use Rattle.path_answers.specs.Numbers.{five_of, Real}
 use Rattle.path_series.specs.declared.calls.LastPath.{LastPath}
-use Rattle.path_series.specs.Turns.{ReplyPut, last_of, last_path_after}
+use Rattle.path_series.specs.Turns.{ReplyPut, answer_of, handed_out, last_of, last_path_after}
 use Rattle.path_series.specs.Runs.{numbers_of, buffer_of, Left}
 use Rattle.path_series.proofs.Forms.{Formed, sum_here, sum_none}
 use Rattle.path_series.proofs.Pieces.{pasted_take, pasted_drop}
@@ -63,35 +67,57 @@ calls_here : (kinds sizes buffers : List ℕ) (j at : ℕ) → j < length kinds 
 unfolding calls_of
 calls_here kinds sizes buffers j at h k = ap₂ (λ (ks ns : List ℕ). calls_of ks ns (drop at buffers)) (drop-cons kinds j 0 h) (drop-cons sizes j 0 k)
 
+-- what a reply says of an outcome, also where it refuses
+pub record Said (o : Outcome ℕ) (room : ℕ) (R : Result PathReply Refusal) : Type 0 where
+  pub numbers_are : numbers_of_path (answer_of R) ≡ o.numbers
+  pub written_is : take (handed_out R).count (handed_out R).path ≡ o.written
+  pub few : (handed_out R).count ≤ 17
+  pub fits : (handed_out R).count ≤ room
+  pub long : length (handed_out R).path ≡ 17
+  pub real : Real (answer_of R)
+
+pub said : (o : Outcome ℕ) (room : ℕ) (R : Result PathReply Refusal) → ReplyIs o room R → Said o room R
+said o room (Ok r) by =
+    record { numbers_are = by.numbers_are; written_is = by.written_is; few = by.few; fits = by.fits; long = by.long; real = by.real }
+said o room (Err r) e =
+    record {
+      numbers_are = sym (ap (λ (x : Outcome ℕ). x.numbers) e);
+      written_is = sym (ap (λ (x : Outcome ℕ). x.written) e);
+      few = omega arith;
+      fits = omega arith;
+      long = refl;
+      real = λ n x round f. absurd (true≢false (sym (ap is_ok f)));
+    }
+
 -- what a call that was routed so replies, and the run behind it
-run_here : (r : Request) (given : List ℕ) (c : Call) (cs : List Call) (room : ℕ) (R : PathReply) → length c.buffer ≡ room
+run_here : (r : Request) (given : List ℕ) (c : Call) (cs : List Call) (room : ℕ) (R : Result PathReply Refusal) → length c.buffer ≡ room
     → ReplyIs (call_outcome r given c.kind room) room R
     → run r given (c ∷ cs)
-    ≡ record { numbers = numbers_of_path R.answer; buffer = over (take R.count R.path) c.buffer }
-    ∷ run r (last_after (eqb (numbers_of_path R.answer).answer 0) (take R.count R.path) given) cs
+    ≡ record { numbers = numbers_of_path (answer_of R); buffer = over (take (handed_out R).count (handed_out R).path) c.buffer }
+    ∷ run r (last_after (eqb (numbers_of_path (answer_of R)).answer 0) (take (handed_out R).count (handed_out R).path) given) cs
 unfolding run
 run_here r given c cs room R e by =
     ap (λ (k : ℕ). let o = call_outcome r given c.kind k in reply_to c o ∷ run r (last_after (eqb o.numbers.answer 0) o.written given) cs) e
     ∙ ap₂
     (λ (n : Numbers) (w : List ℕ). record { numbers = n; buffer = over w c.buffer } ∷ run r (last_after (eqb n.answer 0) w given) cs)
-    (sym by.numbers_are)
-    (sym by.written_is)
+    (sym (said _ room R by).numbers_are)
+    (sym (said _ room R by).written_is)
 
 -- the path last handed out after a call: as the run has it, and at most 17 addresses
-module _ (R : PathReply) (last : LastPath) where
-  last-after : (b : Bool) → last_of (last_path_after b R last) ≡ last_after b (take R.count R.path) (last_of last)
+module _ (R : Result PathReply Refusal) (last : LastPath) where
+  last-after : (b : Bool) → last_of (last_path_after b R last) ≡ last_after b (take (handed_out R).count (handed_out R).path) (last_of last)
   last-after true = refl
   last-after false = refl
 
-  few-after : (b : Bool) → R.count ≤ 17 → last.count ≤ 17 → (last_path_after b R last).count ≤ 17
+  few-after : (b : Bool) → (handed_out R).count ≤ 17 → last.count ≤ 17 → (last_path_after b R last).count ≤ 17
   few-after true f g = f
   few-after false f g = g
 
-five_long : (a : PathAnswer) → length (five_of (numbers_of_path a)) ≡ 5
-five_long (Found n x y) = refl
-five_long NoPath = refl
-five_long End = refl
-five_long (Refused x) = refl
+five_long : (a : Result PathAnswer Refusal) → length (five_of (numbers_of_path a)) ≡ 5
+five_long (Ok (Found n x y)) = refl
+five_long (Ok NoPath) = refl
+five_long (Ok End) = refl
+five_long (Err x) = refl
 
 module _ (r : Request) (kinds sizes buffers₀ numbers₀ buffers numbers : List ℕ) (last : LastPath) (at j : ℕ)
     (formed : Formed kinds sizes (length buffers₀) (length numbers₀))
@@ -111,13 +137,13 @@ module _ (r : Request) (kinds sizes buffers₀ numbers₀ buffers numbers : List
     pub numbers_here : 5 * j + 5 ≤ length numbers
     numbers_here = omega (arith, formed.five, so_far.numbers-long)
 
-    module _ (R : PathReply) (by : ReplyIs (call_outcome r (last_of last) (kind_of (get_or kinds j 0)) size) size R) where
+    module _ (R : Result PathReply Refusal) (by : ReplyIs (call_outcome r (last_of last) (kind_of (get_or kinds j 0)) size) size R) where
       abbrev reply : Reply
-      reply = record { numbers = numbers_of_path R.answer; buffer = over (take R.count R.path) (take size (drop at buffers)) }
+      reply = record { numbers = numbers_of_path (answer_of R); buffer = over (take (handed_out R).count (handed_out R).path) (take size (drop at buffers)) }
 
       -- the path that the run gives a next behind this call
       abbrev given : List ℕ
-      given = last_after (eqb (numbers_of_path R.answer).answer 0) (take R.count R.path) (last_of last)
+      given = last_after (eqb (numbers_of_path (answer_of R)).answer 0) (take (handed_out R).count (handed_out R).path) (last_of last)
 
       replies_here : run r (last_of last) (calls_from kinds sizes j at buffers)
           ≡ reply ∷ run r given (calls_of (drop (suc j) kinds) (drop (suc j) sizes) (drop size (drop at buffers)))
@@ -135,7 +161,7 @@ module _ (r : Request) (kinds sizes buffers₀ numbers₀ buffers numbers : List
           last-is =
               ap last_of kept
               ∙ last-after R last (eqb number 0)
-              ∙ ap (λ (n : ℕ). last_after (eqb n 0) (take R.count R.path) (last_of last)) put.number_is
+              ∙ ap (λ (n : ℕ). last_after (eqb n 0) (take (handed_out R).count (handed_out R).path) (last_of last)) put.number_is
 
           abbrev rest : List Reply
           rest = run r (last_of last') (calls_from kinds sizes (j + 1) (at + size) buffers')
@@ -144,22 +170,22 @@ module _ (r : Request) (kinds sizes buffers₀ numbers₀ buffers numbers : List
           replies_now =
               replies_here
               ∙ ap₂ (λ (g b : List ℕ). reply ∷ run r g (calls_of (drop (suc j) kinds) (drop (suc j) sizes) b)) (sym last-is)
-              (sym (ap (drop (at + size)) put.in_buffers ∙ pasted_drop buffers R.path at R.count size room_here by.fits (omega (arith, by.few, by.long))))
+              (sym (ap (drop (at + size)) put.in_buffers ∙ pasted_drop buffers (handed_out R).path at (handed_out R).count size room_here (said _ size R by).fits (omega (arith, (said _ size R by).few, (said _ size R by).long))))
               ∙ ap (λ (k : ℕ). reply ∷ run r (last_of last') (calls_from kinds sizes k (at + size) buffers')) (sym (add-one j))
 
           buffers_now : take (at + size) buffers' ++ each buffer_of rest ≡ take at buffers ++ each buffer_of (run r (last_of last) (calls_from kinds sizes j at buffers))
           unfolding each
           buffers_now =
               ap (λ (l : List ℕ). l ++ each buffer_of rest)
-              (ap (take (at + size)) put.in_buffers ∙ pasted_take buffers R.path at R.count size room_here by.fits (omega (arith, by.few, by.long)))
+              (ap (take (at + size)) put.in_buffers ∙ pasted_take buffers (handed_out R).path at (handed_out R).count size room_here (said _ size R by).fits (omega (arith, (said _ size R by).few, (said _ size R by).long)))
               ∙ append_assoc (take at buffers) (buffer_of reply) (each buffer_of rest)
               ∙ ap (λ (xs : List Reply). take at buffers ++ each buffer_of xs) (sym replies_now)
 
           abbrev F : List ℕ
-          F = five_of (numbers_of_path R.answer)
+          F = five_of (numbers_of_path (answer_of R))
 
           five : length F ≡ 5
-          five = five_long R.answer
+          five = five_long (answer_of R)
 
           five_over : over (take 5 F) (take 5 (drop (5 * j) numbers)) ≡ F
           unfolding over
@@ -195,9 +221,9 @@ module _ (r : Request) (kinds sizes buffers₀ numbers₀ buffers numbers : List
           turn =
               record {
                 within = omega arith;
-                few = rw kept (few-after R last (eqb number 0) by.few so_far.few);
+                few = rw kept (few-after R last (eqb number 0) (said _ size R by).few so_far.few);
                 reach = omega (arith, left_sum, so_far.reach);
-                buffers-long = ap length put.in_buffers ∙ length-paste buffers at R.path R.count (omega (arith, room_here, by.fits)) (omega (arith, by.few, by.long)) ∙ so_far.buffers-long;
+                buffers-long = ap length put.in_buffers ∙ length-paste buffers at (handed_out R).path (handed_out R).count (omega (arith, room_here, (said _ size R by).fits)) (omega (arith, (said _ size R by).few, (said _ size R by).long)) ∙ so_far.buffers-long;
                 numbers-long = ap length put.in_numbers ∙ length-paste numbers (5 * j) F 5 numbers_here (omega (arith, five)) ∙ so_far.numbers-long;
                 in_buffers = buffers_now ∙ so_far.in_buffers;
                 in_numbers = numbers_now ∙ so_far.in_numbers;

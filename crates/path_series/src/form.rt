@@ -7,14 +7,7 @@ ghost use Rattle.path_series.specs.Calls.{unknown, malformed as malformed_by};
 fn unknown_kind(kinds: &[u8]) -> bool
     ensures { result ≡ any unknown kinds.now }
 {
-    let mut i = 0;
-    while i < kinds.len() {
-        if 1 < kinds[i] {
-            return true;
-        }
-        i += 1;
-    }
-    false
+    kinds.iter().any(|kind| 1 < *kind)
 }
 
 // The sizes add up to the whole. Counted down from it, since their sum may be any number.
@@ -22,14 +15,11 @@ fn adds_up(sizes: &[u32], whole: usize) -> bool
     ensures { result ≡ eqb (sum sizes.now) whole }
 {
     let mut left = whole;
-    let mut i = 0;
-    while i < sizes.len() {
-        let size = sizes[i] as usize;
-        if left < size {
+    for size in sizes {
+        let Some(rest) = left.checked_sub(*size as usize) else {
             return false;
-        }
-        left -= size;
-        i += 1;
+        };
+        left = rest;
     }
     left == 0
 }
@@ -37,14 +27,8 @@ fn adds_up(sizes: &[u32], whole: usize) -> bool
 pub fn malformed(kinds: &[u8], sizes: &[u32], buffers: usize, numbers: usize) -> bool
     ensures { result ≡ malformed_by kinds.now sizes.now buffers numbers }
 {
-    if unknown_kind(kinds) {
+    if unknown_kind(kinds) || kinds.len() != sizes.len() {
         return true;
     }
-    if kinds.len() != sizes.len() {
-        return true;
-    }
-    if !adds_up(sizes, buffers) {
-        return true;
-    }
-    numbers / 5 < kinds.len()
+    !adds_up(sizes, buffers) || numbers / 5 < kinds.len()
 }

@@ -11,12 +11,9 @@ use request::Asked;
 pub mod calls;
 pub mod form;
 
-#[derive(Clone, Copy)]
-pub enum SeriesAnswer {
-    Done,
-    // The arguments don't fit together; nothing is written.
-    Malformed,
-}
+// The arguments of a series don't fit together; nothing is written.
+#[derive(Clone, Copy, Debug, PartialEq, Eq)]
+pub struct MalformedSeries;
 
 // Makes the calls: kinds[j] is 0 for a first and 1 for a next; the buffers lie back to back, of sizes[j] addresses; five numbers for each call.
 pub fn run(
@@ -28,14 +25,14 @@ pub fn run(
     sizes: &[u32],
     buffers: &mut [u32],
     numbers: &mut [u32],
-) -> SeriesAnswer
+) -> Result<(), MalformedSeries>
     ensures { RunIs (request_for profile.now asked include.now exclude.now) kinds.now sizes.now buffers.old numbers.old result buffers.new numbers.new }
 {
     if malformed(kinds, sizes, buffers.len(), numbers.len()) {
-        return SeriesAnswer::Malformed;
+        return Err(MalformedSeries);
     }
     make_calls(
         profile, asked, include, exclude, kinds, sizes, buffers, numbers,
     );
-    SeriesAnswer::Done
+    Ok(())
 }
