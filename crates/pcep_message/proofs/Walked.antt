@@ -5,7 +5,7 @@ use Prim.Native.Nat.{ℕ, zero, suc, ◌≤◌, ◌<◌}
 use native.Mathlib.Omega.{arith}
 use mathlib.Core.Path.{◌≡◌, refl, sym, ap, subst, ◌∙◌}
 use mathlib.Core.Bool.{Bool, true, false, cond, ◌&&◌}
-use mathlib.Core.List.{List}
+use mathlib.Core.List.{List, [], ◌∷◌}
 use lib.ListN.{length, get_or, set, replicate}
 use lib.Dec.{eqb}
 use borrow.Author.Tests.{eqb-true, eqb-false, ne_eqb}
@@ -24,8 +24,8 @@ use Rattle.pcep_laws.proofs.Objects.{right_object, further, first_end, first_nex
 use Rattle.pcep_message.specs.declared.objects.Known.{Known}
 use Rattle.pcep_message.specs.declared.objects.Known.TheVariants.{Rp, NoPath, EndPoints, Bandwidth, Metric, Ero, Iro, Xro}
 use Rattle.pcep_message.specs.declared.objects.Objects.{Objects}
-use Rattle.pcep_message.specs.Known.{class_of}
-use Rattle.pcep_message.specs.Walked.{class_known, places, first_at, Noted, ObjectsPassed}
+use Rattle.pcep_message.specs.Known.{class_of, slot_of}
+use Rattle.pcep_message.specs.Walked.{class_known, places, first_at, objects_met, ObjectsPassed}
 
 -- no class 0 is known
 no_zero : (k : MessageKind) (c : ℕ) → 0 < get_or (leasts k) c 0 → eqb 0 c ≡ false
@@ -44,16 +44,53 @@ class-small Iro = omega arith
 class-small Xro = omega arith
 
 -- no place is known at first
-nothing-met : (c : ℕ) → first_at (record { rp = None; no_path = None; end_points = None; bandwidth = None; metric = None; ero = None; iro = None; xro = None }) c ≡ None
+nothing-met : (c : ℕ) → first_at (objects_met (replicate 8 None)) c ≡ None
 nothing-met c = none 18 c
   where
     no-place : Option ℕ
     no-place = None
 
-    none : (n c : ℕ) → get_or (replicate n (no-place)) c no-place ≡ no-place
+    none : (n c : ℕ) → get_or (replicate n no-place) c no-place ≡ no-place
     none zero c = refl
     none (suc n) zero = refl
     none (suc n) (suc c) = none n c
+
+-- a place that is noted in its slot is noted by its class
+by_name : (a b c d e f g h x : Option ℕ) (o : Known) → let met : List (Option ℕ) = a ∷ b ∷ c ∷ d ∷ e ∷ f ∷ g ∷ h ∷ [] in places (objects_met (set met (slot_of o) x)) ≡ set (places (objects_met met)) (class_of o) x
+by_name a b c d e f g h x Rp = refl
+by_name a b c d e f g h x NoPath = refl
+by_name a b c d e f g h x EndPoints = refl
+by_name a b c d e f g h x Bandwidth = refl
+by_name a b c d e f g h x Metric = refl
+by_name a b c d e f g h x Ero = refl
+by_name a b c d e f g h x Iro = refl
+by_name a b c d e f g h x Xro = refl
+
+slot_set : (met : List (Option ℕ)) (o : Known) (x : Option ℕ) → length met ≡ 8 → places (objects_met (set met (slot_of o) x)) ≡ set (places (objects_met met)) (class_of o) x
+slot_set [] o x l = absurd (omega arith)
+slot_set (a ∷ []) o x l = absurd (omega arith)
+slot_set (a ∷ b ∷ []) o x l = absurd (omega arith)
+slot_set (a ∷ b ∷ c ∷ []) o x l = absurd (omega arith)
+slot_set (a ∷ b ∷ c ∷ d ∷ []) o x l = absurd (omega arith)
+slot_set (a ∷ b ∷ c ∷ d ∷ e ∷ []) o x l = absurd (omega arith)
+slot_set (a ∷ b ∷ c ∷ d ∷ e ∷ f ∷ []) o x l = absurd (omega arith)
+slot_set (a ∷ b ∷ c ∷ d ∷ e ∷ f ∷ g ∷ []) o x l = absurd (omega arith)
+slot_set (a ∷ b ∷ c ∷ d ∷ e ∷ f ∷ g ∷ h ∷ []) o x l = by_name a b c d e f g h x o
+slot_set (a ∷ b ∷ c ∷ d ∷ e ∷ f ∷ g ∷ h ∷ i ∷ met) o x l = absurd (omega arith)
+
+slot-get : (met : List (Option ℕ)) (o : Known) → get_or met (slot_of o) None ≡ first_at (objects_met met) (class_of o)
+slot-get met Rp = refl
+slot-get met NoPath = refl
+slot-get met EndPoints = refl
+slot-get met Bandwidth = refl
+slot-get met Metric = refl
+slot-get met Ero = refl
+slot-get met Iro = refl
+slot-get met Xro = refl
+
+-- an object was met at this place: where none of its class was before, it is the first
+abbrev Noted : Objects → Known → ℕ → Objects → Type 0
+Noted m o at r = places r ≡ set (places m) (class_of o) (option_or (first_at m (class_of o)) (Some at))
 
 -- an object that was met stands in the list of places by its class
 noted_at : (m r : Objects) (o : Known) (at : ℕ) → Noted m o at r → (c : ℕ) → first_at r c ≡ noted (eqb (class_of o) c) (first_at m c) at
@@ -97,7 +134,7 @@ module _ (k : MessageKind) (s : List ℕ) where
         : objects_verdict k s 4 ≡ Pass → (c : ℕ) → 0 < get_or (leasts k) c 0
         → option_or (first_at m c) (placed (first_of (is_object c s) (objects_in s at))) ≡ placed (first_of (is_object c s) (objects_in s 4))
 
-  pub walk_starts : 4 ≤ length s → Walked 4 (record { rp = None; no_path = None; end_points = None; bandwidth = None; metric = None; ero = None; iro = None; xro = None })
+  pub walk_starts : 4 ≤ length s → Walked 4 (objects_met (replicate 8 None))
   walk_starts h =
       record {
         start = omega arith;
@@ -142,10 +179,21 @@ module _ (k : MessageKind) (s : List ℕ) where
                 ∙ w.met p c known;
           }
 
-      pub walk_notes : (o : Known) → class_of o ≡ class_known k s at → (r : Objects) → Noted m o at r → Walked (after_object s at) r
-      walk_notes o is r n =
+      noted-on : (o : Known) → class_of o ≡ class_known k s at → (r : Objects) → Noted m o at r → Walked (after_object s at) r
+      noted-on o is r n =
           next r (λ c known. noted_at m r o at n c ∙ ap (λ (b : Bool). noted b (first_at m c) at) (ap (λ (i : ℕ). eqb i c) is ∙ known_same at c known))
 
       pub walk_skips : 0 ≡ class_known k s at → Walked (after_object s at) m
       walk_skips is =
           next m (λ c known. ap (λ (b : Bool). noted b (first_at m c) at) (sym (no_zero k c known) ∙ ap (λ (i : ℕ). eqb i c) is ∙ known_same at c known))
+
+  -- the same, where the place is noted in its slot
+  pub walk_notes
+      : (at : ℕ) (met : List (Option ℕ)) → length met ≡ 8 → Walked at (objects_met met) → at < length s → object_verdict k s at ≡ Pass
+      → (o : Known) → class_of o ≡ class_known k s at → (i : ℕ) → i ≡ slot_of o → (x : Option ℕ) → x ≡ option_or (get_or met i None) (Some at)
+      → Walked (after_object s at) (objects_met (set met i x))
+  walk_notes at met long w h pass o is i slot x e =
+      let m : Objects = objects_met met in
+      let new : x ≡ option_or (first_at m (class_of o)) (Some at) = e ∙ ap (λ (n : ℕ). option_or (get_or met n None) (Some at)) slot ∙ ap (λ (y : Option ℕ). option_or y (Some at)) (slot-get met o) in
+      noted-on at m w h pass o is (objects_met (set met i x))
+      (ap (λ (n : ℕ). places (objects_met (set met n x))) slot ∙ slot_set met o x long ∙ ap (λ (y : Option ℕ). set (places m) (class_of o) y) new)

@@ -1,7 +1,5 @@
 -- What the walk along a message's objects answers, over `Objects` of `pcep_model`.
-use Rattle.std.specs.Prelude.{ℕ, ◌%◌, ◌<◌, ◌≡◌, Bool, not, cond, ◌||◌, List, [], ◌∷◌, get_or, eqb, ltb, Option, None, Some, Result, Ok, Err}
-use Rattle.std.specs.List.{slice_set}
-use Rattle.std.specs.Option.{option_or}
+use Rattle.std.specs.Prelude.{ℕ, ◌%◌, ◌<◌, ◌≡◌, Bool, not, cond, ◌||◌, List, [], ◌∷◌, get_or, eqb, ltb, Option, None, Result, Ok, Err}
 use Rattle.model.specs.Verdict.{Pass}
 use Rattle.model.specs.declared.Refusal.{Refusal}
 use Rattle.pcep_model.specs.declared.MessageKind.{MessageKind}
@@ -11,7 +9,7 @@ use Rattle.pcep_laws.specs.Firsts.{placed}
 use Rattle.pcep_message.specs.declared.objects.Known.{Known}
 use Rattle.pcep_message.specs.declared.objects.Object.{Object}
 use Rattle.pcep_message.specs.declared.objects.Objects.{Objects}
-use Rattle.pcep_message.specs.Known.{class_of, known_class, fits}
+use Rattle.pcep_message.specs.Known.{known_class, fits}
 
 -- a wrong length, by what is left of the message
 abbrev pub size_refused : Option Known → ℕ → ℕ → Bool
@@ -40,9 +38,19 @@ places m =
 abbrev pub first_at : Objects → ℕ → Option ℕ
 first_at m c = get_or (places m) c None
 
--- an object was met at this place: where none of its class was before, it is the first
-abbrev pub Noted : Objects → Known → ℕ → Objects → Type 0
-Noted m o at r = places r ≡ slice_set (places m) (class_of o) (option_or (first_at m (class_of o)) (Some at))
+-- those noted on the way, by their objects' names
+abbrev pub objects_met : List (Option ℕ) → Objects
+objects_met met =
+    record {
+      rp = get_or met 0 None;
+      no_path = get_or met 1 None;
+      end_points = get_or met 2 None;
+      bandwidth = get_or met 3 None;
+      metric = get_or met 4 None;
+      ero = get_or met 5 None;
+      iro = get_or met 6 None;
+      xro = get_or met 7 None;
+    }
 
 -- where the first object of each class that is known in the message starts
 abbrev pub FirstsAre : MessageKind → List ℕ → Objects → Type 0

@@ -1,8 +1,8 @@
 // A PCEP message's objects in turn, 37 and 38, with where the first one of each known class starts.
 ghost use Rattle.std.specs.Prelude.{◌≡◌, ◌≤◌, ◌<◌, ◌/◌, ◌%◌, ◌&&◌, eqb, length, Some};
 ghost use Rattle.std.specs.Option.{is_none, option_or};
-ghost use Rattle.pcep_message.specs.Known.{KnownIs, length_of, fits};
-ghost use Rattle.pcep_message.specs.Walked.{size_refused, ObjectIs, ObjectsAre, Noted};
+ghost use Rattle.pcep_message.specs.Known.{KnownIs, length_of, slot_of, fits};
+ghost use Rattle.pcep_message.specs.Walked.{size_refused, ObjectIs, ObjectsAre, objects_met};
 
 use model::{Reason, Refusal};
 use pcep_model::MessageKind;
@@ -28,16 +28,23 @@ fn known_object(kind: MessageKind, class: u8, form: u8) -> Option<Known>
     if form != 1 {
         return None;
     }
-    match (kind, class) {
-        (_, 2) => Some(Known::Rp),
-        (MessageKind::Pcrep, 3) => Some(Known::NoPath),
-        (MessageKind::Pcreq, 4) => Some(Known::EndPoints),
-        (MessageKind::Pcreq, 5) => Some(Known::Bandwidth),
-        (_, 6) => Some(Known::Metric),
-        (MessageKind::Pcrep, 7) => Some(Known::Ero),
-        (MessageKind::Pcreq, 10) => Some(Known::Iro),
-        (MessageKind::Pcreq, 17) => Some(Known::Xro),
-        _ => None,
+    match kind {
+        MessageKind::Pcreq => match class {
+            2 => Some(Known::Rp),
+            4 => Some(Known::EndPoints),
+            5 => Some(Known::Bandwidth),
+            6 => Some(Known::Metric),
+            10 => Some(Known::Iro),
+            17 => Some(Known::Xro),
+            _ => None,
+        },
+        MessageKind::Pcrep => match class {
+            2 => Some(Known::Rp),
+            3 => Some(Known::NoPath),
+            6 => Some(Known::Metric),
+            7 => Some(Known::Ero),
+            _ => None,
+        },
     }
 }
 
@@ -127,17 +134,6 @@ pub struct Objects {
     pub xro: Option<u16>,
 }
 
-const NONE_MET: Objects = Objects {
-    rp: None,
-    no_path: None,
-    end_points: None,
-    bandwidth: None,
-    metric: None,
-    ero: None,
-    iro: None,
-    xro: None,
-};
-
 // The first place met of a class: the one known so far, or where there is none this one.
 fn first_of(known: Option<u16>, at: u16) -> Option<u16>
     ensures { result ≡ option_or known (Some at) }
@@ -145,43 +141,27 @@ fn first_of(known: Option<u16>, at: u16) -> Option<u16>
     known.or(Some(at))
 }
 
-// The places met, with this one of an object.
-fn noted(met: Objects, object: Known, at: u16) -> Objects
-    ensures { Noted met object at result }
+// Where the places of an object stand among those met.
+fn slot(object: Known) -> usize
+    ensures { (result ≡ slot_of object) × (result < 8) }
 {
-    match object {
-        Known::Rp => Objects {
-            rp: first_of(met.rp, at),
-            ..met
-        },
-        Known::NoPath => Objects {
-            no_path: first_of(met.no_path, at),
-            ..met
-        },
-        Known::EndPoints => Objects {
-            end_points: first_of(met.end_points, at),
-            ..met
-        },
-        Known::Bandwidth => Objects {
-            bandwidth: first_of(met.bandwidth, at),
-            ..met
-        },
-        Known::Metric => Objects {
-            metric: first_of(met.metric, at),
-            ..met
-        },
-        Known::Ero => Objects {
-            ero: first_of(met.ero, at),
-            ..met
-        },
-        Known::Iro => Objects {
-            iro: first_of(met.iro, at),
-            ..met
-        },
-        Known::Xro => Objects {
-            xro: first_of(met.xro, at),
-            ..met
-        },
+    object as usize
+}
+
+// The places met, by the objects' names.
+fn objects_met(met: [Option<u16>; 8]) -> Objects
+    requires { length met ≡ 8 }
+    ensures { result ≡ objects_met met }
+{
+    Objects {
+        rp: met[0],
+        no_path: met[1],
+        end_points: met[2],
+        bandwidth: met[3],
+        metric: met[4],
+        ero: met[5],
+        iro: met[6],
+        xro: met[7],
     }
 }
 
@@ -190,14 +170,15 @@ pub fn objects_in(kind: MessageKind, message: &[u8]) -> Result<Objects, Refusal>
     requires { (4 ≤ length message.now) × (length message.now ≤ 65535) }
     ensures { ObjectsAre kind message.now result }
 {
-    let mut met = NONE_MET;
+    let mut met = [None; 8];
     let mut at: usize = 4;
     while at < message.len() {
         let object = object_at(kind, message, at)?;
         if let Some(known) = object.known {
-            met = noted(met, known, at as u16);
+            let i = slot(known);
+            met[i] = first_of(met[i], at as u16);
         }
         at = object.next;
     }
-    Ok(met)
+    Ok(objects_met(met))
 }
