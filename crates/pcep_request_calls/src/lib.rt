@@ -8,10 +8,10 @@ ghost use Rattle.buffers.specs.Capacity.{least4};
 ghost use Rattle.tree_fields.specs.TreeResult.{TreeIn};
 ghost use Rattle.pcep_request_calls.specs.Through.{PathIn};
 
-use model::{DomainIndex, PathAnswer, TreeAnswer};
+use model::{BuiltTree, DomainIndex, PathAnswer, Refusal};
 use path_calls::{first, next};
 use pcep_message::parts::list_in;
-use pcep_request_reader::carried::{Carried, carried_by};
+use pcep_request_reader::carried::carried_by;
 use tree_fields::tree_numbers;
 
 // The tree's fields in four lent buffers. On a refusal they keep what they held.
@@ -23,21 +23,22 @@ pub fn pcreq_tree(
     address: &mut [u32],
     reachable: &mut [u8],
     cost: &mut [u32],
-) -> TreeAnswer
+) -> Result<BuiltTree, Refusal>
     ensures { TreeIn (pcreq_tree profile.now ingress.0 message.now (least4 level.old address.old reachable.old cost.old)) level.old address.old reachable.old cost.old result level.new address.new reachable.new cost.new }
 {
-    let carried = carried_by(ingress, message);
-    match carried {
-        Carried::Refused(r) => TreeAnswer::Refused(r),
-        Carried::Request(request) => {
-            let asked = request.asked;
-            let include = list_in(message, request.include);
-            let exclude = list_in(message, request.exclude);
-            tree_numbers(
-                profile, asked, include, exclude, level, address, reachable, cost,
-            )
-        }
-    }
+    let request = carried_by(ingress, message)?;
+    let include = list_in(message, request.include);
+    let exclude = list_in(message, request.exclude);
+    tree_numbers(
+        profile,
+        request.asked,
+        include,
+        exclude,
+        level,
+        address,
+        reachable,
+        cost,
+    )
 }
 
 // The first of the shortest paths, or why there is none.
@@ -46,19 +47,13 @@ pub fn pcreq_first(
     ingress: DomainIndex,
     message: &[u8],
     path: &mut [u32],
-) -> PathAnswer
+) -> Result<PathAnswer, Refusal>
     ensures { PathIn (pcreq_first profile.now ingress.0 message.now (length path.old)) path.old result path.new }
 {
-    let carried = carried_by(ingress, message);
-    match carried {
-        Carried::Refused(r) => PathAnswer::Refused(r),
-        Carried::Request(request) => {
-            let asked = request.asked;
-            let include = list_in(message, request.include);
-            let exclude = list_in(message, request.exclude);
-            first(profile, asked, include, exclude, path)
-        }
-    }
+    let request = carried_by(ingress, message)?;
+    let include = list_in(message, request.include);
+    let exclude = list_in(message, request.exclude);
+    first(profile, request.asked, include, exclude, path)
 }
 
 // The next of the shortest paths after a given list, which need not be a path.
@@ -68,17 +63,11 @@ pub fn pcreq_next(
     message: &[u8],
     given: &[u32],
     path: &mut [u32],
-) -> PathAnswer
+) -> Result<PathAnswer, Refusal>
     ensures { PathIn (pcreq_next profile.now ingress.0 message.now given.now (length path.old)) path.old result path.new }
 {
-    let carried = carried_by(ingress, message);
-    match carried {
-        Carried::Refused(r) => PathAnswer::Refused(r),
-        Carried::Request(request) => {
-            let asked = request.asked;
-            let include = list_in(message, request.include);
-            let exclude = list_in(message, request.exclude);
-            next(profile, asked, include, exclude, given, path)
-        }
-    }
+    let request = carried_by(ingress, message)?;
+    let include = list_in(message, request.include);
+    let exclude = list_in(message, request.exclude);
+    next(profile, request.asked, include, exclude, given, path)
 }
