@@ -6,17 +6,16 @@ ghost use Rattle.model.specs.Calls.{build_tree};
 ghost use Rattle.request.specs.CheckedRequest.{request_of};
 ghost use Rattle.tree.specs.Trees.{TableResultIs, TreeLent};
 
-use model::{DomainIndex, Limits, NodeAddress, TreeAnswer, TreeEntry};
+use model::{BuiltTree, DomainIndex, Limits, NodeAddress, Refusal, TreeEntry};
 use request::Asked;
 use tree_entries::{TreeTable, fill};
 use tree_fields::put::put_levels;
 use tree_fields::solve;
 
-// A tree by value: the answer, and the entries to be written, `count` of them.
-#[derive(Drop)]
+// A tree by value: what is told of it, and its entries.
+#[derive(Clone, Copy)]
 pub struct TableResult {
-    pub answer: TreeAnswer,
-    pub count: usize,
+    pub built: BuiltTree,
     pub table: TreeTable,
 }
 
@@ -30,7 +29,7 @@ pub fn build(
     exclude: &[u8],
     limits: Limits,
     room: usize,
-) -> TableResult
+) -> Result<TableResult, Refusal>
     ensures { TableResultIs (build_tree (request_of profile.now ingress.0 source.0 destination.0 include.now exclude.now limits) room) room result }
 {
     let mut addresses = [0u32; 242];
@@ -51,20 +50,17 @@ pub fn build(
         &mut addresses,
         &mut reaches,
         &mut starts,
-    );
-    let answer = solved.answer;
-    let n = solved.count;
+    )?;
     let mut level = [0u32; 241];
     put_levels(&starts, solved.places, &mut level);
-    TableResult {
-        answer,
-        count: n,
+    Ok(TableResult {
+        built: solved.built,
         table: TreeTable {
             level,
             addresses,
             reaches,
         },
-    }
+    })
 }
 
 // The tree in a lent slice of entries. On a refusal the slice keeps what it held.
@@ -77,10 +73,10 @@ pub fn tree(
     exclude: &[u8],
     limits: Limits,
     entries: &mut [TreeEntry],
-) -> TreeAnswer
+) -> Result<BuiltTree, Refusal>
     ensures { TreeLent (build_tree (request_of profile.now ingress.0 source.0 destination.0 include.now exclude.now limits) (length entries.old)) entries.old result entries.new }
 {
-    let built = build(
+    let made = build(
         profile,
         ingress,
         source,
@@ -89,7 +85,7 @@ pub fn tree(
         exclude,
         limits,
         entries.len(),
-    );
-    fill(entries, built.table, built.count);
-    built.answer
+    )?;
+    fill(entries, made.table, made.built.entries as usize);
+    Ok(made.built)
 }
