@@ -2,6 +2,15 @@
 use model::{DomainIndex, Limits, NodeAddress};
 use request::Asked;
 
+// A request on a profile: its title, and its lists.
+#[derive(Clone, Copy)]
+pub struct Case<'a> {
+    pub title: &'a str,
+    pub profile: &'a [u8],
+    pub include: &'a [u8],
+    pub exclude: &'a [u8],
+}
+
 pub const S: u32 = 0xC0000201;
 
 pub const Z: u32 = 0xC0000263;

@@ -4,13 +4,13 @@ ghost use Rattle.model.specs.Calls.{build_tree};
 ghost use Rattle.request.specs.CheckedRequest.{request_of};
 ghost use Rattle.tree.specs.Trees.{TreeLent};
 
-use model::{DomainIndex, Limits, NodeAddress, TreeAnswer, TreeEntry};
+use model::{BuiltTree, DomainIndex, Limits, NodeAddress, Refusal, TreeEntry};
 use tree::tree;
 
 // The answer, and the entries as the call left them.
 #[derive(Drop)]
 pub struct LentTree {
-    pub answer: TreeAnswer,
+    pub answer: Result<BuiltTree, Refusal>,
     pub entries: [TreeEntry; 5],
 }
 

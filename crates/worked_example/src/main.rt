@@ -3,40 +3,27 @@
 #![tactic(auto)]
 
 use crate::cases::{
-    A_LONGER_PATH, BACK, DESIRED_WITHOUT_P_AND_Q, ONWARD, PROFILE_W, S, WITHOUT_Q, Z, asked, limits,
+    A_LONGER_PATH, BACK, Case, DESIRED_WITHOUT_P_AND_Q, ONWARD, PROFILE_W, S, WITHOUT_Q, Z, asked,
+    limits,
 };
 use crate::lent::lent_tree;
-use model::{DomainIndex, NodeAddress, TreeAnswer, TreeEntry};
-use path_answers::numbers::{five_of, round_number};
+use model::{DomainIndex, NodeAddress, TreeEntry};
 use path_calls::{first, next};
-use printing::{print_answer, print_entry, print_path, print_refusal, print_tally, text};
+use printing::{print_answer, print_entry, print_path, print_refusal, print_tree};
 use std::io;
 
 mod cases;
 mod lent;
 
-// The first `count` of the entries that were lent.
-fn print_entries(rt: &impl Print, entries: [TreeEntry; 5], count: u32) -> io::Result<()> {
-    let mut i = 0;
-    let mut left = count;
-    while i < 5 && left > 0 {
-        let e = entries[i];
-        print_entry(rt, e.level, e.address.0, e.reachable, e.cost)?;
-        i += 1;
-        left -= 1;
-    }
-    Ok(())
-}
-
 // The tree. On this profile it has at most five entries: S, P, Q, T and U.
-fn show_tree(rt: &impl Print, profile: &[u8], include: &[u8], exclude: &[u8]) -> io::Result<()> {
+fn show_tree(rt: &impl Print, case: Case) -> io::Result<()> {
     let lent = lent_tree(
-        profile,
+        case.profile,
         DomainIndex(0),
         NodeAddress(S),
         NodeAddress(Z),
-        include,
-        exclude,
+        case.include,
+        case.exclude,
         limits(),
         TreeEntry {
             level: 0,
@@ -45,116 +32,101 @@ fn show_tree(rt: &impl Print, profile: &[u8], include: &[u8], exclude: &[u8]) ->
             cost: 0,
         },
     );
-    let answer = lent.answer;
     let entries = lent.entries;
-    match answer {
-        TreeAnswer::Built {
-            entries: count,
-            tally,
-            round,
-        } => {
-            print_tally(rt, count, tally, round_number(round))?;
-            print_entries(rt, entries, count)
+    match lent.answer {
+        Ok(tree) => {
+            print_tree(rt, tree)?;
+            for entry in entries.iter().take(tree.entries as usize) {
+                print_entry(rt, *entry)?;
+            }
+            Ok(())
         }
-        TreeAnswer::Refused(r) => print_refusal(rt, b"tree", r.number, r.place),
+        Err(refusal) => print_refusal(rt, "tree", refusal),
     }
 }
 
 // The first path, into `path`; whether there is one.
-fn show_first(
-    rt: &impl Print,
-    profile: &[u8],
-    include: &[u8],
-    exclude: &[u8],
-    path: &mut [u32; 4],
-) -> io::Result<bool> {
-    let answer = first(profile, asked(), include, exclude, path);
-    print_answer(rt, b"first", five_of(answer), *path)
+fn show_first(rt: &impl Print, case: Case, path: &mut [u32; 4]) -> io::Result<bool> {
+    let answer = first(case.profile, asked(), case.include, case.exclude, path);
+    print_answer(rt, "first", answer, path)
 }
 
 // The path after a given list, into `path`; whether there is one.
 fn show_next(
     rt: &impl Print,
-    profile: &[u8],
-    include: &[u8],
-    exclude: &[u8],
+    case: Case,
     given: &[u32; 4],
     path: &mut [u32; 4],
 ) -> io::Result<bool> {
-    let answer = next(profile, asked(), include, exclude, given, path);
-    print_answer(rt, b"next", five_of(answer), *path)
+    let answer = next(
+        case.profile,
+        asked(),
+        case.include,
+        case.exclude,
+        given,
+        path,
+    );
+    print_answer(rt, "next", answer, path)
 }
 
 // First, then next until there is no other. A proved loop has to end: this one makes at most eight calls, more than the profile has paths.
-fn show_paths(rt: &impl Print, profile: &[u8], include: &[u8], exclude: &[u8]) -> io::Result<()> {
+fn show_paths(rt: &impl Print, case: Case) -> io::Result<()> {
     let mut path = [0u32; 4];
-    let mut more = show_first(rt, profile, include, exclude, &mut path)?;
-    let mut turns = 8u32;
-    while turns > 0 && more {
+    let mut more = show_first(rt, case, &mut path)?;
+    for _ in 0..8 {
+        if !more {
+            break;
+        }
         let given = path;
-        more = show_next(rt, profile, include, exclude, &given, &mut path)?;
-        turns -= 1;
+        more = show_next(rt, case, &given, &mut path)?;
     }
     Ok(())
 }
 
 // The path after one that isn't listed.
-fn show_next_after(
-    rt: &impl Print,
-    profile: &[u8],
-    include: &[u8],
-    exclude: &[u8],
-) -> io::Result<()> {
+fn show_next_after(rt: &impl Print, case: Case) -> io::Result<()> {
     let mut path = [0u32; 4];
-    print_path(rt, b"after ", A_LONGER_PATH)?;
-    text(rt, b"\n")?;
-    show_next(rt, profile, include, exclude, &A_LONGER_PATH, &mut path)?;
+    print!(rt; "after")?;
+    print_path(rt, &A_LONGER_PATH)?;
+    println!(rt; "")?;
+    show_next(rt, case, &A_LONGER_PATH, &mut path)?;
     Ok(())
 }
 
-fn show(
-    rt: &impl Print,
-    title: &[u8],
-    profile: &[u8],
-    include: &[u8],
-    exclude: &[u8],
-) -> io::Result<()> {
-    text(rt, title)?;
-    show_tree(rt, profile, include, exclude)?;
-    show_paths(rt, profile, include, exclude)?;
-    show_next_after(rt, profile, include, exclude)
+fn show(rt: &impl Print, case: Case) -> io::Result<()> {
+    let title = case.title;
+    println!(rt; "{title}")?;
+    show_tree(rt, case)?;
+    show_paths(rt, case)?;
+    show_next_after(rt, case)
 }
 
 fn show_requests(rt: &impl Print, profile: &[u8]) -> io::Result<()> {
-    let nothing = [0u8; 0];
-    show(
-        rt,
-        b"Profile W by AS 64497 and 64498\n",
+    let onward = Case {
+        title: "Profile W by AS 64497 and 64498",
         profile,
-        &ONWARD,
-        &nothing,
-    )?;
-    show(
-        rt,
-        b"\nThe same without 192.0.2.12\n",
-        profile,
-        &ONWARD,
-        &WITHOUT_Q,
-    )?;
-    show(
-        rt,
-        b"\nThe same with the exclusion of 192.0.2.11 and 192.0.2.12 only desired\n",
-        profile,
-        &ONWARD,
-        &DESIRED_WITHOUT_P_AND_Q,
-    )?;
-    show(
-        rt,
-        b"\nBy AS 64497 and back to 64496\n",
-        profile,
-        &BACK,
-        &nothing,
-    )
+        include: &ONWARD,
+        exclude: &[],
+    };
+    show(rt, onward)?;
+    let without = Case {
+        title: "\nThe same without 192.0.2.12",
+        exclude: &WITHOUT_Q,
+        ..onward
+    };
+    show(rt, without)?;
+    let desired = Case {
+        title: "\nThe same with the exclusion of 192.0.2.11 and 192.0.2.12 only desired",
+        exclude: &DESIRED_WITHOUT_P_AND_Q,
+        ..onward
+    };
+    show(rt, desired)?;
+    let back = Case {
+        title: "\nBy AS 64497 and back to 64496",
+        include: &BACK,
+        ..onward
+    };
+    show(rt, back)
 }
 
 fn main(rt: HostRuntime) -> io::Result<()> {
