@@ -24,7 +24,7 @@ use profile_records::layout::Layout;
 use request::{Query, in_round};
 use tree_levels::lay_out;
 use tree_reaches::UNREACHABLE;
-use tree_vspt::fill_tree;
+use tree_vspt::{LaidTree, fill_tree};
 
 // A query in the round that applies, and how many hop records were examined in all rounds (the tally).
 #[derive(Clone, Copy)]
@@ -83,18 +83,18 @@ pub fn settle(
         lasts,
     );
     let first = in_round(q, Round::First);
-    fill_tree(
-        s,
+    let laid = LaidTree {
+        profile: s,
         layout,
         include,
         exclude,
-        first,
-        &*addresses,
-        &*starts,
-        &*firsts,
-        &*lasts,
-        reaches,
-    );
+        query: first,
+        addresses: &*addresses,
+        starts: &*starts,
+        firsts: &*firsts,
+        lasts: &*lasts,
+    };
+    fill_tree(&laid, reaches);
     if !needs_second(include, exclude, q, reaches[0]) {
         return ChosenRound {
             query: first,
@@ -102,18 +102,11 @@ pub fn settle(
         };
     }
     let second = in_round(q, Round::Second);
-    fill_tree(
-        s,
-        layout,
-        include,
-        exclude,
-        second,
-        &*addresses,
-        &*starts,
-        &*firsts,
-        &*lasts,
-        reaches,
-    );
+    let again = LaidTree {
+        query: second,
+        ..laid
+    };
+    fill_tree(&again, reaches);
     ChosenRound {
         query: second,
         tally: examined + examined,

@@ -6,14 +6,13 @@ ghost use Rattle.model.specs.Verdict.{Pass};
 ghost use Rattle.model.specs.declared.ListKind.TheVariants.{Exclude};
 ghost use Rattle.model.specs.Exclusion.{in_force, excluded_node};
 ghost use Rattle.model.specs.Subobject.{form_verdict, subobjects};
-ghost use Rattle.laws.specs.Lists.{lists_of};
 ghost use Rattle.profile_records.specs.Layout.{layout_of, SoundLayout};
 ghost use Rattle.tree_levels.specs.Levels.{LaidOut};
-ghost use Rattle.request.specs.Query.{search_for, Ready};
 ghost use Rattle.tree_reaches.specs.Reaches.{code_if};
 ghost use Rattle.laws.specs.Stops.{stop_at, stretch_start};
 ghost use Rattle.tree_vspt.specs.Leg.{next_place, LegFor};
-ghost use Rattle.tree_vspt.specs.Tree.{Holds, HoldsFrom, filled_at, filled_from, LaidOutFor, TreeCodes};
+ghost use Rattle.tree_vspt.specs.Tree.{Holds, HoldsFrom, filled_at, filled_from, TreeCodes};
+ghost use Rattle.tree_vspt.specs.Laid.{lists_in, search_in, ReadyIn, LaidIn};
 
 use list_exclusion::excludes_node;
 use list_exclusion::exrs::first_exrs;
@@ -25,6 +24,20 @@ use profile_records::layout::Layout;
 use request::Query;
 use tree_reaches::UNREACHABLE;
 use tree_step::{Leg, fill_level};
+
+// What a tree is filled by, the same at every place of the sequence: the profile, both lists, the query in its round, and its places and legs as they are laid out.
+#[derive(Clone, Copy)]
+pub struct LaidTree<'a> {
+    pub profile: &'a [u8],
+    pub layout: Layout,
+    pub include: &'a [u8],
+    pub exclude: &'a [u8],
+    pub query: Query,
+    pub addresses: &'a [u32; 242],
+    pub starts: &'a [usize; 18],
+    pub firsts: &'a [usize; 16],
+    pub lasts: &'a [usize; 16],
+}
 
 // Behind the last domain: the destination reaches itself at no cost, unless it is excluded in the round.
 fn arrival(exclude: &[u8], round: Round, destination: NodeAddress) -> u32
@@ -61,179 +74,93 @@ fn stretch_start(stops: &[NamedStop; 16], i: usize) -> usize
 }
 
 // The leg from place i of the sequence. Whether its domain is excluded in the round, and whether it has EXRS at all, is asked here, once for all its entries.
-fn leg_at(
-    s: &[u8],
-    layout: Layout,
-    include: &[u8],
-    exclude: &[u8],
-    q: Query,
-    i: usize,
-    starts: &[usize; 18],
-    firsts: &[usize; 16],
-    lasts: &[usize; 16],
-) -> Leg
-    requires { Ready (layout_of layout) s.now (lists_of include.now exclude.now) q × (i < q.count) }
-    ensures { (addresses : List ℕ) (tally : ℕ) → LaidOut (search_for (layout_of layout) s.now (lists_of include.now exclude.now) q) (layout_of layout) s.now addresses starts.now firsts.now lasts.now tally → LegFor (layout_of layout) s.now (search_for (layout_of layout) s.now (lists_of include.now exclude.now) q) (lists_of include.now exclude.now) i result }
+fn leg_at(laid: &LaidTree<'_>, i: usize) -> Leg
+    requires { ReadyIn laid.now × (i < laid.now.query.count) }
+    ensures { (addresses : List ℕ) (tally : ℕ) → LaidOut (search_in laid.now) (layout_of laid.now.layout) laid.now.profile.now addresses laid.now.starts.now laid.now.firsts.now laid.now.lasts.now tally → LegFor (layout_of laid.now.layout) laid.now.profile.now (search_in laid.now) (lists_in laid.now) i result }
 {
-    let stop = q.stops[i];
-    let from = stop.domain;
+    let stops = &laid.query.stops;
+    let stop = stops[i];
     let named = stop.named as usize;
-    let d = domain_at(s, from.0 as usize);
-    let round = q.round;
-    let exrs = first_exrs(include, stretch_start(&q.stops, i), named);
-    let excluded = excludes_domain_there(include, exclude, exrs, named, round, d);
+    let d = domain_at(laid.profile, stop.domain.0 as usize);
+    let round = laid.query.round;
+    let exrs = first_exrs(laid.include, stretch_start(stops, i), named);
+    let excluded = excludes_domain_there(laid.include, laid.exclude, exrs, named, round, d);
     Leg {
-        from,
-        to: next_domain(&q.stops, q.count, i),
+        from: stop.domain,
+        to: next_domain(stops, laid.query.count, i),
         hops: HopRange {
-            first: firsts[i],
-            last: lasts[i],
+            first: laid.firsts[i],
+            last: laid.lasts[i],
         },
         round,
         excluded,
         pin: stop.pin,
         exrs,
         named,
-        start: starts[i],
-        next: starts[i + 1],
-        end: starts[i + 2],
+        start: laid.starts[i],
+        next: laid.starts[i + 1],
+        end: laid.starts[i + 2],
     }
 }
 
 // The reaches of place i, from those of the place after it. Apart from the recursion, so that its leg isn't kept while the places behind it are worked out.
-fn fill_place(
-    s: &[u8],
-    layout: Layout,
-    include: &[u8],
-    exclude: &[u8],
-    q: Query,
-    i: usize,
-    addresses: &[u32; 242],
-    starts: &[usize; 18],
-    firsts: &[usize; 16],
-    lasts: &[usize; 16],
-    reaches: &mut [u32],
-)
-    requires sound_layout { SoundLayout (layout_of layout) × Ready (layout_of layout) s.now (lists_of include.now exclude.now) q × (i < q.count) }
-    requires laid_out_for { LaidOutFor (layout_of layout) s.now (lists_of include.now exclude.now) q addresses.now starts.now firsts.now lasts.now × (length reaches.old ≡ 242) }
-    requires holds { Holds (search_for (layout_of layout) s.now (lists_of include.now exclude.now) q) (suc i) reaches.old }
-    ensures { reaches.new ≡ filled_at (search_for (layout_of layout) s.now (lists_of include.now exclude.now) q) i reaches.old }
+fn fill_place(laid: &LaidTree<'_>, i: usize, reaches: &mut [u32])
+    requires sound_layout { SoundLayout (layout_of laid.now.layout) × ReadyIn laid.now × (i < laid.now.query.count) }
+    requires laid_out_for { LaidIn laid.now × (length reaches.old ≡ 242) }
+    requires holds { Holds (search_in laid.now) (suc i) reaches.old }
+    ensures { reaches.new ≡ filled_at (search_in laid.now) i reaches.old }
 {
-    let leg = leg_at(s, layout, include, exclude, q, i, starts, firsts, lasts);
-    let asked = q.limits.bandwidth;
-    fill_level(s, layout, include, exclude, leg, asked, addresses, reaches);
+    let leg = leg_at(laid, i);
+    let addresses = laid.addresses;
+    fill_level(
+        laid.profile,
+        laid.layout,
+        laid.include,
+        laid.exclude,
+        leg,
+        laid.query.limits.bandwidth,
+        addresses,
+        reaches,
+    );
 }
 
 // The reaches of the places from i on, `left` domains and the end behind them: the last first, each from the one after it.
-fn fill_from(
-    s: &[u8],
-    layout: Layout,
-    include: &[u8],
-    exclude: &[u8],
-    q: Query,
-    i: usize,
-    left: usize,
-    addresses: &[u32; 242],
-    starts: &[usize; 18],
-    firsts: &[usize; 16],
-    lasts: &[usize; 16],
-    reaches: &mut [u32],
-)
-    requires sound_layout { SoundLayout (layout_of layout) × Ready (layout_of layout) s.now (lists_of include.now exclude.now) q × (i + left ≡ q.count) }
-    requires laid_out_for { LaidOutFor (layout_of layout) s.now (lists_of include.now exclude.now) q addresses.now starts.now firsts.now lasts.now × (length reaches.old ≡ 242) }
-    ensures { reaches.new ≡ filled_from (search_for (layout_of layout) s.now (lists_of include.now exclude.now) q) i (suc left) reaches.old }
+fn fill_from(laid: &LaidTree<'_>, i: usize, left: usize, reaches: &mut [u32])
+    requires sound_layout { SoundLayout (layout_of laid.now.layout) × ReadyIn laid.now × (i + left ≡ laid.now.query.count) }
+    requires laid_out_for { LaidIn laid.now × (length reaches.old ≡ 242) }
+    ensures { reaches.new ≡ filled_from (search_in laid.now) i (suc left) reaches.old }
 {
     if left == 0 {
-        let at = starts[i];
-        let destination = q.destination;
-        let round = q.round;
-        reaches[at] = arrival(exclude, round, destination);
+        let at = laid.starts[i];
+        reaches[at] = arrival(laid.exclude, laid.query.round, laid.query.destination);
         return;
     }
-    fill_from(
-        s,
-        layout,
-        include,
-        exclude,
-        q,
-        i + 1,
-        left - 1,
-        addresses,
-        starts,
-        firsts,
-        lasts,
-        reaches,
-    );
-    fill_place(
-        s, layout, include, exclude, q, i, addresses, starts, firsts, lasts, reaches,
-    );
+    fill_from(laid, i + 1, left - 1, reaches);
+    fill_place(laid, i, reaches);
 }
 
 // The reaches of the places before place n, the last first, each from the one after it. Those from place n on stand, and aren't touched.
-pub fn fill_before(
-    s: &[u8],
-    layout: Layout,
-    include: &[u8],
-    exclude: &[u8],
-    q: Query,
-    n: usize,
-    addresses: &[u32; 242],
-    starts: &[usize; 18],
-    firsts: &[usize; 16],
-    lasts: &[usize; 16],
-    reaches: &mut [u32],
-)
-    requires sound_layout { SoundLayout (layout_of layout) × Ready (layout_of layout) s.now (lists_of include.now exclude.now) q × (n ≤ q.count) }
-    requires laid_out_for { LaidOutFor (layout_of layout) s.now (lists_of include.now exclude.now) q addresses.now starts.now firsts.now lasts.now × (length reaches.old ≡ 242) }
-    requires holds_from { HoldsFrom (search_for (layout_of layout) s.now (lists_of include.now exclude.now) q) n reaches.old }
-    ensures { (reaches.new ≡ filled_from (search_for (layout_of layout) s.now (lists_of include.now exclude.now) q) 0 n reaches.old) × TreeCodes (search_for (layout_of layout) s.now (lists_of include.now exclude.now) q) reaches.new }
+pub fn fill_before(laid: &LaidTree<'_>, n: usize, reaches: &mut [u32])
+    requires sound_layout { SoundLayout (layout_of laid.now.layout) × ReadyIn laid.now × (n ≤ laid.now.query.count) }
+    requires laid_out_for { LaidIn laid.now × (length reaches.old ≡ 242) }
+    requires holds_from { HoldsFrom (search_in laid.now) n reaches.old }
+    ensures { (reaches.new ≡ filled_from (search_in laid.now) 0 n reaches.old) × TreeCodes (search_in laid.now) reaches.new }
 {
     if n == 0 {
         return;
     }
     let i = n - 1;
-    fill_place(
-        s, layout, include, exclude, q, i, addresses, starts, firsts, lasts, reaches,
-    );
-    fill_before(
-        s, layout, include, exclude, q, i, addresses, starts, firsts, lasts, reaches,
-    );
+    fill_place(laid, i, reaches);
+    fill_before(laid, i, reaches);
 }
 
 // The whole tree of a query in its round, over the entries that are laid out: how each reaches the destination. The first place is filled apart: were
 // `fill_place` called by one recursion alone, the compiler would draw it in, and with it some 300 bytes into the frame of each place.
-pub fn fill_tree(
-    s: &[u8],
-    layout: Layout,
-    include: &[u8],
-    exclude: &[u8],
-    q: Query,
-    addresses: &[u32; 242],
-    starts: &[usize; 18],
-    firsts: &[usize; 16],
-    lasts: &[usize; 16],
-    reaches: &mut [u32; 242],
-)
-    requires sound_layout { SoundLayout (layout_of layout) × Ready (layout_of layout) s.now (lists_of include.now exclude.now) q }
-    requires laid_out_for { LaidOutFor (layout_of layout) s.now (lists_of include.now exclude.now) q addresses.now starts.now firsts.now lasts.now × (length reaches.old ≡ 242) }
-    ensures { TreeCodes (search_for (layout_of layout) s.now (lists_of include.now exclude.now) q) reaches.new × (length reaches.new ≡ 242) }
+pub fn fill_tree(laid: &LaidTree<'_>, reaches: &mut [u32; 242])
+    requires sound_layout { SoundLayout (layout_of laid.now.layout) × ReadyIn laid.now }
+    requires laid_out_for { LaidIn laid.now × (length reaches.old ≡ 242) }
+    ensures { TreeCodes (search_in laid.now) reaches.new × (length reaches.new ≡ 242) }
 {
-    let count = q.count;
-    fill_from(
-        s,
-        layout,
-        include,
-        exclude,
-        q,
-        1,
-        count - 1,
-        addresses,
-        starts,
-        firsts,
-        lasts,
-        reaches,
-    );
-    fill_before(
-        s, layout, include, exclude, q, 1, addresses, starts, firsts, lasts, reaches,
-    );
+    fill_from(laid, 1, laid.query.count - 1, reaches);
+    fill_before(laid, 1, reaches);
 }

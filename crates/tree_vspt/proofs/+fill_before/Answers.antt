@@ -13,29 +13,29 @@ use Rattle.tree_vspt.proofs.+fill_before.Goals as goal
 
 pub returns-then-n-eq0 : goal.returns-then-n-eq0
 returns-then-n-eq0 t c =
-    let a = c.args in
+    let a = c.args.laid.now in
     let lists = lists_of a.include.now a.exclude.now in
-    let none : a.n ≡ 0 = c.if-n-eq0.true in
-    let S : Search = search_for (layout_of a.layout) a.s.now lists a.q in (
-      filled_none S 0 a.reaches.now ∙ ap (λ (n : ℕ). filled_from S 0 n a.reaches.now) (sym none),
-      holds-whole S a.reaches.now (subst (λ (n : ℕ). HoldsFrom S n a.reaches.now) none c.requires.holds_from),
+    let none : c.args.n ≡ 0 = c.if-n-eq0.true in
+    let S : Search = search_for (layout_of a.layout) a.profile.now lists a.query in (
+      filled_none S 0 c.args.reaches.now ∙ ap (λ (n : ℕ). filled_from S 0 n c.args.reaches.now) (sym none),
+      holds-whole S c.args.reaches.now (subst (λ (n : ℕ). HoldsFrom S n c.args.reaches.now) none c.requires.holds_from),
     )
 
 pub fill_place-requires-clause-holds : goal.fill_place-requires-clause-holds
 fill_place-requires-clause-holds t c =
-    let a = c.args in
+    let a = c.args.laid.now in
     let lists = lists_of a.include.now a.exclude.now in
     let pre = c.requires in
-    let some : suc (a.n - 1) ≡ a.n = omega arith in
-    stands_next (layout_of a.layout) a.s.now lists a.q pre.sound_layout.0.cheap pre.sound_layout.1 a.addresses.now a.starts.now a.firsts.now a.lasts.now pre.laid_out_for.0
-    a.n (a.n - 1) some pre.sound_layout.2 a.reaches.now pre.laid_out_for.1 pre.holds_from
+    let some : suc (c.args.n - 1) ≡ c.args.n = omega arith in
+    stands_next (layout_of a.layout) a.profile.now lists a.query pre.sound_layout.0.cheap pre.sound_layout.1 a.addresses.now a.starts.now a.firsts.now a.lasts.now pre.laid_out_for.0
+    c.args.n (c.args.n - 1) some pre.sound_layout.2 c.args.reaches.now pre.laid_out_for.1 pre.holds_from
 
 pub fill_before-requires : goal.fill_before-requires
 fill_before-requires t c =
-    let a = c.args in
+    let a = c.args.laid.now in
     let lists = lists_of a.include.now a.exclude.now in
     let pre = c.requires in
-    let some : suc (a.n - 1) ≡ a.n = omega arith in
+    let some : suc (c.args.n - 1) ≡ c.args.n = omega arith in
     let w = c.fill_place.ensures in (
       omega (arith, c.decreases),
       (
@@ -43,23 +43,23 @@ fill_before-requires t c =
         (
           (
             pre.laid_out_for.0,
-            placed-long (layout_of a.layout) a.s.now lists a.q pre.sound_layout.0.cheap pre.sound_layout.1 a.addresses.now a.starts.now a.firsts.now a.lasts.now pre.laid_out_for.0
-                (a.n - 1) (omega (arith, pre.sound_layout.2)) a.reaches.now _ pre.laid_out_for.1 w
+            placed-long (layout_of a.layout) a.profile.now lists a.query pre.sound_layout.0.cheap pre.sound_layout.1 a.addresses.now a.starts.now a.firsts.now a.lasts.now pre.laid_out_for.0
+                (c.args.n - 1) (omega (arith, pre.sound_layout.2)) c.args.reaches.now _ pre.laid_out_for.1 w
                 ∙ pre.laid_out_for.1,
           ),
-          stands_more (layout_of a.layout) a.s.now lists a.q pre.sound_layout.0.cheap pre.sound_layout.1 a.addresses.now a.starts.now a.firsts.now a.lasts.now pre.laid_out_for.0
-              a.n (a.n - 1) some pre.sound_layout.2 a.reaches.now pre.laid_out_for.1 pre.holds_from _ w,
+          stands_more (layout_of a.layout) a.profile.now lists a.query pre.sound_layout.0.cheap pre.sound_layout.1 a.addresses.now a.starts.now a.firsts.now a.lasts.now pre.laid_out_for.0
+              c.args.n (c.args.n - 1) some pre.sound_layout.2 c.args.reaches.now pre.laid_out_for.1 pre.holds_from _ w,
         ),
       ),
     )
 
 pub returns : goal.returns
 returns t c =
-    let a = c.args in
+    let a = c.args.laid.now in
     let lists = lists_of a.include.now a.exclude.now in
     let pre = c.requires in
-    let some : suc (a.n - 1) ≡ a.n = omega arith in (
-      filled_from_lem (layout_of a.layout) a.s.now lists a.q pre.sound_layout.0.cheap pre.sound_layout.1 a.addresses.now a.starts.now a.firsts.now a.lasts.now pre.laid_out_for.0
-          a.n (a.n - 1) some pre.sound_layout.2 a.reaches.now pre.laid_out_for.1 pre.holds_from _ _ c.fill_place.ensures c.fill_before.ensures.0,
+    let some : suc (c.args.n - 1) ≡ c.args.n = omega arith in (
+      filled_from_lem (layout_of a.layout) a.profile.now lists a.query pre.sound_layout.0.cheap pre.sound_layout.1 a.addresses.now a.starts.now a.firsts.now a.lasts.now pre.laid_out_for.0
+          c.args.n (c.args.n - 1) some pre.sound_layout.2 c.args.reaches.now pre.laid_out_for.1 pre.holds_from _ _ c.fill_place.ensures c.fill_before.ensures.0,
       c.fill_before.ensures.1,
     )

@@ -6,7 +6,7 @@ use Rattle.tree_vspt.proofs.fill_place.Goals as goal
 
 pub fill_level-requires : goal.fill_level-requires
 fill_level-requires c =
-    let a = c.args in
+    let a = c.args.laid.now in
     let lists = lists_of a.include.now a.exclude.now in
     let leg = c.leg_at-leg in
     let for = leg.ensures a.addresses.now c.requires.laid_out_for.0.examined c.requires.laid_out_for.0.laid in record {
@@ -14,18 +14,18 @@ fill_level-requires c =
       exclude_value = (c.requires.sound_layout.1.exclude-right, c.requires.sound_layout.1.bandwidth-right, for.stretch);
       pair_range = for.range;
       start_le_next = (
-        in_order (layout_of a.layout) a.s.now lists a.q c.requires.sound_layout.0.cheap c.requires.sound_layout.1 a.addresses.now a.starts.now a.firsts.now a.lasts.now c.requires.laid_out_for.0
-            a.i c.requires.sound_layout.2 a.reaches.now c.requires.laid_out_for.1 c.requires.holds leg.result for.is,
-        next_place (layout_of a.layout) a.s.now lists a.q c.requires.sound_layout.0.cheap c.requires.sound_layout.1 a.addresses.now a.starts.now a.firsts.now a.lasts.now c.requires.laid_out_for.0
-            a.i c.requires.sound_layout.2 a.reaches.now c.requires.laid_out_for.1 c.requires.holds leg.result for.is,
+        in_order (layout_of a.layout) a.profile.now lists a.query c.requires.sound_layout.0.cheap c.requires.sound_layout.1 a.addresses.now a.starts.now a.firsts.now a.lasts.now c.requires.laid_out_for.0
+            c.args.i c.requires.sound_layout.2 c.args.reaches.now c.requires.laid_out_for.1 c.requires.holds leg.result for.is,
+        next_place (layout_of a.layout) a.profile.now lists a.query c.requires.sound_layout.0.cheap c.requires.sound_layout.1 a.addresses.now a.starts.now a.firsts.now a.lasts.now c.requires.laid_out_for.0
+            c.args.i c.requires.sound_layout.2 c.args.reaches.now c.requires.laid_out_for.1 c.requires.holds leg.result for.is,
       );
     }
 
 pub returns : goal.returns
 returns c =
-    let a = c.args in
+    let a = c.args.laid.now in
     let lists = lists_of a.include.now a.exclude.now in
     let leg = c.leg_at-leg in
     let for = leg.ensures a.addresses.now c.requires.laid_out_for.0.examined c.requires.laid_out_for.0.laid in
-    placed (layout_of a.layout) a.s.now lists a.q c.requires.sound_layout.0.cheap c.requires.sound_layout.1 a.addresses.now a.starts.now a.firsts.now a.lasts.now c.requires.laid_out_for.0
-    a.i c.requires.sound_layout.2 a.reaches.now c.requires.laid_out_for.1 c.requires.holds leg.result for.is _ c.fill_level.ensures
+    placed (layout_of a.layout) a.profile.now lists a.query c.requires.sound_layout.0.cheap c.requires.sound_layout.1 a.addresses.now a.starts.now a.firsts.now a.lasts.now c.requires.laid_out_for.0
+    c.args.i c.requires.sound_layout.2 c.args.reaches.now c.requires.laid_out_for.1 c.requires.holds leg.result for.is _ c.fill_level.ensures

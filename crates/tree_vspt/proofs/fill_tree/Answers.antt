@@ -9,24 +9,24 @@ use Rattle.tree_vspt.proofs.fill_tree.Goals as goal
 
 pub fill_before-requires : goal.fill_before-requires
 fill_before-requires c =
-    let a = c.args in
+    let a = c.args.laid.now in
     let lists = lists_of a.include.now a.exclude.now in
     let some = c.requires.sound_layout.1.some_domain_lem in
-    let whole : 0 + suc (a.q.count - 1) ≡ a.q.count = omega arith in
+    let whole : 0 + suc (a.query.count - 1) ≡ a.query.count = omega arith in
     let w = c.fill_from.ensures in record {
       sound_layout = (c.requires.sound_layout.0, c.requires.sound_layout.1, some);
-      laid_out_for = (c.requires.laid_out_for.0, mid_long (layout_of a.layout) a.s.now lists a.q c.requires.sound_layout.0.cheap c.requires.sound_layout.1 _ _ _ _ c.requires.laid_out_for.0 0 (a.q.count - 1) whole a.reaches.now _ c.requires.laid_out_for.1 w);
-      holds_from = written_stands (layout_of a.layout) a.s.now lists a.q c.requires.sound_layout.0.cheap c.requires.sound_layout.1 _ _ _ _ c.requires.laid_out_for.0 0 (a.q.count - 1) whole a.reaches.now _ c.requires.laid_out_for.1 w;
+      laid_out_for = (c.requires.laid_out_for.0, mid_long (layout_of a.layout) a.profile.now lists a.query c.requires.sound_layout.0.cheap c.requires.sound_layout.1 _ _ _ _ c.requires.laid_out_for.0 0 (a.query.count - 1) whole c.args.reaches.now _ c.requires.laid_out_for.1 w);
+      holds_from = written_stands (layout_of a.layout) a.profile.now lists a.query c.requires.sound_layout.0.cheap c.requires.sound_layout.1 _ _ _ _ c.requires.laid_out_for.0 0 (a.query.count - 1) whole c.args.reaches.now _ c.requires.laid_out_for.1 w;
     }
 
 pub returns : goal.returns
 returns c =
-    let a = c.args in
+    let a = c.args.laid.now in
     let lists = lists_of a.include.now a.exclude.now in
     let some = c.requires.sound_layout.1.some_domain_lem in
-    let whole : 0 + suc (a.q.count - 1) ≡ a.q.count = omega arith in
+    let whole : 0 + suc (a.query.count - 1) ≡ a.query.count = omega arith in
     let behind = c.fill_from.ensures in
-    let mid = mid_long (layout_of a.layout) a.s.now lists a.q c.requires.sound_layout.0.cheap c.requires.sound_layout.1 _ _ _ _ c.requires.laid_out_for.0 0 (a.q.count - 1) whole a.reaches.now _ c.requires.laid_out_for.1 behind in (
+    let mid = mid_long (layout_of a.layout) a.profile.now lists a.query c.requires.sound_layout.0.cheap c.requires.sound_layout.1 _ _ _ _ c.requires.laid_out_for.0 0 (a.query.count - 1) whole c.args.reaches.now _ c.requires.laid_out_for.1 behind in (
       c.fill_before.ensures.1,
-      before-long (layout_of a.layout) a.s.now lists a.q c.requires.sound_layout.0.cheap c.requires.sound_layout.1 _ _ _ _ c.requires.laid_out_for.0 1 some _ _ mid c.fill_before.ensures.0 ∙ mid,
+      before-long (layout_of a.layout) a.profile.now lists a.query c.requires.sound_layout.0.cheap c.requires.sound_layout.1 _ _ _ _ c.requires.laid_out_for.0 1 some _ _ mid c.fill_before.ensures.0 ∙ mid,
     )

@@ -16,31 +16,31 @@ use Rattle.tree_vspt.proofs.leg_at.Goals as goal
 
 pub domain_at-d-requires : goal.domain_at-d-requires
 domain_at-d-requires c =
-    let a = c.args in
+    let a = c.args.laid.now in
     let lists = lists_of a.include.now a.exclude.now in
-    domain-inside (layout_of a.layout) a.s.now lists a.q c.requires.0 a.i c.requires.1
+    domain-inside (layout_of a.layout) a.profile.now lists a.query c.requires.0 c.args.i c.requires.1
 
 pub first_exrs-exrs-requires : goal.first_exrs-exrs-requires
 first_exrs-exrs-requires c =
-    let a = c.args in
-    subst (λ (from : ℕ). Stretch a.include.now from (named_in a.q.stops a.i)) (sym c.stretch_start.ensures) (c.requires.0.placed a.i c.requires.1)
+    let a = c.args.laid.now in
+    subst (λ (from : ℕ). Stretch a.include.now from (named_in a.query.stops c.args.i)) (sym c.stretch_start.ensures) (c.requires.0.placed c.args.i c.requires.1)
 
 pub excludes_domain_there-excluded-requires : goal.excludes_domain_there-excluded-requires
 excludes_domain_there-excluded-requires c =
-    let a = c.args in
+    let a = c.args.laid.now in
     let lists = lists_of a.include.now a.exclude.now in (
       c.requires.0.exclude-right,
       c.first_exrs-exrs.ensures.0,
-      rw c.domain_at-d.ensures (area-short (layout_of a.layout) a.s.now lists a.q c.requires.0 a.i c.requires.1),
+      rw c.domain_at-d.ensures (area-short (layout_of a.layout) a.profile.now lists a.query c.requires.0 c.args.i c.requires.1),
     )
 
 pub returns : goal.returns
 returns c =
-    let a = c.args in
+    let a = c.args.laid.now in
     let lists = lists_of a.include.now a.exclude.now in
-    let two-on : a.i + 2 ≡ suc (suc a.i) = omega arith in
+    let two-on : c.args.i + 2 ≡ suc (suc c.args.i) = omega arith in
     λ addresses tally laid.
-    leg-for (layout_of a.layout) a.s.now lists a.q c.requires.0 a.i c.requires.1
+    leg-for (layout_of a.layout) a.profile.now lists a.query c.requires.0 c.args.i c.requires.1
     addresses a.starts.now a.firsts.now a.lasts.now tally laid _
     (record {
       from_made = refl;
@@ -49,14 +49,14 @@ returns c =
       stretch_made = c.first_exrs-exrs.ensures.0;
       carried_made =
           c.first_exrs-exrs.ensures.1
-          ∙ ap (λ (from : ℕ). carried_in a.include.now from (named_in a.q.stops a.i)) c.stretch_start.ensures;
+          ∙ ap (λ (from : ℕ). carried_in a.include.now from (named_in a.query.stops c.args.i)) c.stretch_start.ensures;
       excluded_made =
           c.excludes_domain_there-excluded.ensures
-          ∙ ap (excluded_domain (exclusions_there a.q.round lists _ _)) c.domain_at-d.ensures;
+          ∙ ap (excluded_domain (exclusions_there a.query.round lists _ _)) c.domain_at-d.ensures;
       pin_made = refl;
       first_made = refl;
       last_made = refl;
       start_made = refl;
-      next_made = ap (λ (n : ℕ). get_or a.starts.now n 0) (add-one a.i);
+      next_made = ap (λ (n : ℕ). get_or a.starts.now n 0) (add-one c.args.i);
       end_made = ap (λ (n : ℕ). get_or a.starts.now n 0) two-on;
     })
