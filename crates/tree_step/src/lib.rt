@@ -15,7 +15,8 @@ ghost use Rattle.laws.specs.Lists.{lists_of};
 ghost use Rattle.profile_records.specs.Layout.{layout_of, RightProfile};
 ghost use Rattle.profile_hop_range.specs.Ranges.{PairRange};
 ghost use Rattle.tree_reaches.specs.Reaches.{reach_of, NextPlace};
-ghost use Rattle.tree_step.specs.Step.{leg_exclusions, allowed_by, entry_reach, level_codes};
+ghost use Rattle.tree_step.specs.Step.{leg_exclusions, allowed_by};
+ghost use Rattle.tree_step.specs.Taken.{reach_by, codes_by};
 
 use list_exclusion::place::excludes_node_there;
 use model::{DomainIndex, NodeAddress, Round};
@@ -40,6 +41,18 @@ pub struct Leg {
     pub end: usize,
 }
 
+// What a step is taken by: the profile, both lists, the leg, the bandwidth that is asked for, and the addresses of all places.
+#[derive(Clone, Copy)]
+pub struct Step<'a> {
+    pub profile: &'a [u8],
+    pub layout: Layout,
+    pub include: &'a [u8],
+    pub exclude: &'a [u8],
+    pub leg: Leg,
+    pub asked: f32,
+    pub addresses: &'a [u32],
+}
+
 // The entry constraint, if there is one, is kept by a node.
 fn keeps_pin(pin: Option<NodeAddress>, node: NodeAddress) -> bool
     ensures { result ≡ keeps_pin (pin_as pin) node.0 }
@@ -58,34 +71,25 @@ fn allowed_at(include: &[u8], exclude: &[u8], leg: Leg, node: NodeAddress) -> bo
 }
 
 // How one entry reaches the destination.
-fn entry_reach(
-    s: &[u8],
-    layout: Layout,
-    include: &[u8],
-    exclude: &[u8],
-    leg: Leg,
-    asked: f32,
-    node: NodeAddress,
-    addresses: &[u32],
-    reaches: &[u32],
-) -> u32
-    requires right_profile { RightProfile (layout_of layout) s.now }
-    requires exclude_value { (form_verdict Exclude exclude.now ≡ Pass) × (in_range asked ≡ true) × Stretch include.now leg.exrs leg.named }
-    requires pair_range { PairRange (layout_of layout) s.now leg.from.0 leg.to.0 leg.hops.first leg.hops.last }
-    requires next_place { NextPlace addresses.now reaches.now leg.next leg.end }
-    ensures { reach_of result ≡ entry_reach (layout_of layout) s.now (lists_of include.now exclude.now) leg asked (slice leg.next leg.end addresses.now) (slice leg.next leg.end reaches.now) node.0 }
+fn entry_reach(step: &Step<'_>, node: NodeAddress, reaches: &[u32]) -> u32
+    requires right_profile { RightProfile (layout_of step.now.layout) step.now.profile.now }
+    requires exclude_value { (form_verdict Exclude step.now.exclude.now ≡ Pass) × (in_range step.now.asked ≡ true) × Stretch step.now.include.now step.now.leg.exrs step.now.leg.named }
+    requires pair_range { PairRange (layout_of step.now.layout) step.now.profile.now step.now.leg.from.0 step.now.leg.to.0 step.now.leg.hops.first step.now.leg.hops.last }
+    requires next_place { NextPlace step.now.addresses.now reaches.now step.now.leg.next step.now.leg.end }
+    ensures { reach_of result ≡ reach_by step.now reaches.now node.0 }
 {
-    if !allowed_at(include, exclude, leg, node) {
+    let leg = step.leg;
+    if !allowed_at(step.include, step.exclude, leg, node) {
         return UNREACHABLE;
     }
-    let range = tail_range(s, layout, leg.hops, leg.from, leg.to, node);
+    let range = tail_range(step.profile, step.layout, leg.hops, leg.from, leg.to, node);
     best_from(
-        s,
-        layout,
+        step.profile,
+        step.layout,
         range.first,
         range.last,
-        asked,
-        addresses,
+        step.asked,
+        step.addresses,
         reaches,
         leg.next,
         leg.end,
@@ -93,26 +97,15 @@ fn entry_reach(
 }
 
 // The reaches of one domain's entries, from those of the next place. No others change.
-pub fn fill_level(
-    s: &[u8],
-    layout: Layout,
-    include: &[u8],
-    exclude: &[u8],
-    leg: Leg,
-    asked: f32,
-    addresses: &[u32],
-    reaches: &mut [u32],
-)
-    requires right_profile { RightProfile (layout_of layout) s.now }
-    requires exclude_value { (form_verdict Exclude exclude.now ≡ Pass) × (in_range asked ≡ true) × Stretch include.now leg.exrs leg.named }
-    requires pair_range { PairRange (layout_of layout) s.now leg.from.0 leg.to.0 leg.hops.first leg.hops.last }
-    requires start_le_next { (leg.start ≤ leg.next) × NextPlace addresses.now reaches.old leg.next leg.end }
-    ensures { reaches.new ≡ paste reaches.old leg.start (level_codes (layout_of layout) s.now (lists_of include.now exclude.now) leg asked addresses.now reaches.old) (leg.next - leg.start) }
+pub fn fill_level(step: &Step<'_>, reaches: &mut [u32])
+    requires right_profile { RightProfile (layout_of step.now.layout) step.now.profile.now }
+    requires exclude_value { (form_verdict Exclude step.now.exclude.now ≡ Pass) × (in_range step.now.asked ≡ true) × Stretch step.now.include.now step.now.leg.exrs step.now.leg.named }
+    requires pair_range { PairRange (layout_of step.now.layout) step.now.profile.now step.now.leg.from.0 step.now.leg.to.0 step.now.leg.hops.first step.now.leg.hops.last }
+    requires start_le_next { (step.now.leg.start ≤ step.now.leg.next) × NextPlace step.now.addresses.now reaches.old step.now.leg.next step.now.leg.end }
+    ensures { reaches.new ≡ paste reaches.old step.now.leg.start (codes_by step.now reaches.old) (step.now.leg.next - step.now.leg.start) }
 {
-    for j in leg.start..leg.next {
-        let node = NodeAddress(addresses[j]);
-        reaches[j] = entry_reach(
-            s, layout, include, exclude, leg, asked, node, addresses, &*reaches,
-        );
+    let addresses = step.addresses;
+    for j in step.leg.start..step.leg.next {
+        reaches[j] = entry_reach(step, NodeAddress(addresses[j]), &*reaches);
     }
 }

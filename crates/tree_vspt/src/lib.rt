@@ -23,7 +23,7 @@ use profile_records::domain::domain_at;
 use profile_records::layout::Layout;
 use request::Query;
 use tree_reaches::UNREACHABLE;
-use tree_step::{Leg, fill_level};
+use tree_step::{Leg, Step, fill_level};
 
 // What a tree is filled by, the same at every place of the sequence: the profile, both lists, the query in its round, and its places and legs as they are laid out.
 #[derive(Clone, Copy)]
@@ -112,16 +112,16 @@ fn fill_place(laid: &LaidTree<'_>, i: usize, reaches: &mut [u32])
 {
     let leg = leg_at(laid, i);
     let addresses = laid.addresses;
-    fill_level(
-        laid.profile,
-        laid.layout,
-        laid.include,
-        laid.exclude,
+    let step = Step {
+        profile: laid.profile,
+        layout: laid.layout,
+        include: laid.include,
+        exclude: laid.exclude,
         leg,
-        laid.query.limits.bandwidth,
+        asked: laid.query.limits.bandwidth,
         addresses,
-        reaches,
-    );
+    };
+    fill_level(&step, reaches);
 }
 
 // The reaches of the places from i on, `left` domains and the end behind them: the last first, each from the one after it.

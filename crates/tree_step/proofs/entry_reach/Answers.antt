@@ -14,12 +14,12 @@ use Rattle.tree_step.proofs.entry_reach.Goals as goal
 
 pub returns-then-not-allowed_at : goal.returns-then-not-allowed_at
 returns-then-not-allowed_at c =
-    let a = c.args in
+    let a = c.args.step.now in
     let L = layout_of a.layout in
     reach_none 4294967295 refl
     ∙ sym
     (ap
-    (λ (b : Bool). reach_if b (best_from unreached (way_on a.asked (slice a.leg.next a.leg.end a.addresses.now) (slice a.leg.next a.leg.end a.reaches.now)) (keep (leaves_node a.leg.from.0 a.leg.to.0 a.node.0) (hops L a.s.now))))
+    (λ (b : Bool). reach_if b (best_from unreached (way_on a.asked (slice a.leg.next a.leg.end a.addresses.now) (slice a.leg.next a.leg.end c.args.reaches.now)) (keep (leaves_node a.leg.from.0 a.leg.to.0 c.args.node.0) (hops L a.profile.now))))
     (sym c.allowed_at.ensures ∙ c.if-not-allowed_at.true))
 
 pub tail_range-range-requires : goal.tail_range-range-requires
@@ -40,11 +40,11 @@ best_from-requires c =
 
 pub returns : goal.returns
 returns c =
-    let a = c.args in
+    let a = c.args.step.now in
     let L = layout_of a.layout in
-    let f : Hop → Reach = way_on a.asked (slice a.leg.next a.leg.end a.addresses.now) (slice a.leg.next a.leg.end a.reaches.now) in
+    let f : Hop → Reach = way_on a.asked (slice a.leg.next a.leg.end a.addresses.now) (slice a.leg.next a.leg.end c.args.reaches.now) in
     c.best_from.ensures
     ∙ ap (best_from unreached f) (sym c.tail_range-range.ensures.those)
     ∙ sym
-    (ap (λ (b : Bool). reach_if b (best_from unreached f (keep (leaves_node a.leg.from.0 a.leg.to.0 a.node.0) (hops L a.s.now))))
+    (ap (λ (b : Bool). reach_if b (best_from unreached f (keep (leaves_node a.leg.from.0 a.leg.to.0 c.args.node.0) (hops L a.profile.now))))
     (sym c.allowed_at.ensures ∙ c.if-not-allowed_at.false))

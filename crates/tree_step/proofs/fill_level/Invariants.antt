@@ -8,4 +8,4 @@ use Rattle.tree_step.specs.Step.{level_codes}
 use Rattle.tree_step.proofs.fill_level.Given as goal
 
 abbrev pub invariant-loop-j : goal.invariant-loop-j
-invariant-loop-j l = l.reaches ≡ paste l.initial.reaches l.leg.start (level_codes (layout_of l.layout) l.s (lists_of l.include l.exclude) l.leg l.asked l.addresses l.initial.reaches) (l.j - l.leg.start)
+invariant-loop-j l = l.reaches ≡ paste l.initial.reaches l.step.leg.start (level_codes (layout_of l.step.layout) l.step.profile.now (lists_of l.step.include.now l.step.exclude.now) l.step.leg l.step.asked l.step.addresses.now l.initial.reaches) (l.j - l.step.leg.start)
