@@ -7,14 +7,14 @@ use mathlib.Core.Bool.{Bool, true, false, ◌||◌}
 use mathlib.Core.List.{List, [], ◌∷◌, map}
 use lib.ListN.{length, take}
 use lib.Dec.{ltb}
-use Rattle.model.specs.declared.WriteAnswer.TheVariants.{Written}
+use Rattle.std.specs.Prelude.{Result, Ok}
+use Rattle.model.specs.declared.Refusal.{Refusal}
 use Rattle.model.specs.Lists.{any, over}
 use Rattle.model.specs.Verdict.{Verdict, Pass, refuse_if, ◌and_then◌}
 use Rattle.model.specs.Answers.{Numbers, numbers_of_write}
 use Rattle.model.specs.Calls.{answer_write}
 use Rattle.laws.proofs.Lists.{over-take}
-use Rattle.pcep_model.specs.declared.PcrepAnswer.{PcrepAnswer}
-use Rattle.pcep_model.specs.declared.PcrepAnswer.TheVariants as Answer
+use Rattle.pcep_model.specs.declared.PcrepFields.{PcrepFields}
 use Rattle.pcep_model.specs.Metrics.{Metric, out_of_range}
 use Rattle.pcep_model.specs.Pcrep.{Reply, Reading, written_pcrep, write_verdict, write_pcrep, read_pcrep, numbers_of_pcrep}
 use Rattle.pcep_laws.proofs.PcrepFits.{Fits}
@@ -33,7 +33,7 @@ second (x ∷ y ∷ ys) = y
 -- an answer that n bytes are written comes from checks that pass, and n is the message's length
 told
     : (a b c : Bool) (bytes : List ℕ) (n : ℕ)
-    → numbers_of_write (Written n) ≡ (answer_write (refuse_if a 37 0 and_then refuse_if b 21 1 and_then refuse_if c 34 0) bytes).numbers
+    → numbers_of_write (Ok n) ≡ (answer_write (refuse_if a 37 0 and_then refuse_if b 21 1 and_then refuse_if c 34 0) bytes).numbers
     → (refuse_if a 37 0 and_then refuse_if b 21 1 and_then refuse_if c 34 0 ≡ Pass) × (n ≡ length bytes)
 unfolding second
 told true b c bytes n e = let z = ap (λ (x : Numbers). x.answer) e in absurd (omega arith)
@@ -42,14 +42,14 @@ told false false true bytes n e = let z = ap (λ (x : Numbers). x.answer) e in a
 told false false false bytes n e = (refl, ap (λ (x : Numbers). second x.others) e)
 
 -- what comes back
-pub record ReadBack (r : Reply) (addresses kinds flags values : List ℕ) (answer : PcrepAnswer) (a' k' f' v' : List ℕ) : Type 0 where
-  pub fields : numbers_of_pcrep answer ≡ numbers_of_pcrep (Answer.Read (given_fields r))
+pub record ReadBack (r : Reply) (addresses kinds flags values : List ℕ) (answer : Result PcrepFields Refusal) (a' k' f' v' : List ℕ) : Type 0 where
+  pub fields : numbers_of_pcrep answer ≡ numbers_of_pcrep (Ok (given_fields r))
   pub in_addresses : a' ≡ over (given_addresses r) addresses
   pub in_kinds : k' ≡ over (map kind_of r.metrics) kinds
   pub in_flags : f' ≡ over (map flags_of r.metrics) flags
   pub in_values : v' ≡ over (map value_of r.metrics) values
 
-module _ (r : Reply) (unequal : Bool) (entry exit : List ℕ) (n : ℕ) (fits : Fits r) (w : WrittenReply r unequal entry exit (Written n)) where
+module _ (r : Reply) (unequal : Bool) (entry exit : List ℕ) (n : ℕ) (fits : Fits r) (w : WrittenReply r unequal entry exit (Ok n)) where
   wrote : (write_verdict r unequal (length entry) ≡ Pass) × (n ≡ length (written_pcrep r))
   unfolding write_pcrep write_verdict
   wrote =
@@ -64,13 +64,13 @@ module _ (r : Reply) (unequal : Bool) (entry exit : List ℕ) (n : ℕ) (fits : 
       ap₂ (λ (k : ℕ) (s : List ℕ). take k s) wrote.1 (w.buffer ∙ ap (λ (s : List ℕ). over s entry) bytes) ∙ over-take (written_pcrep r) entry
 
   pub pcrep-round-trip
-      : (addresses kinds flags values : List ℕ) (answer : PcrepAnswer) (a' k' f' v' : List ℕ)
+      : (addresses kinds flags values : List ℕ) (answer : Result PcrepFields Refusal) (a' k' f' v' : List ℕ)
       → length (given_addresses r) ≤ length addresses
       → length r.metrics ≤ least3 kinds flags values
       → ReadBy (take n exit) addresses kinds flags values answer a' k' f' v'
       → ReadBack r addresses kinds flags values answer a' k' f' v'
   pcrep-round-trip addresses kinds flags values answer a' k' f' v' room metric-room is =
-      let given : Reading = record { numbers = numbers_of_pcrep (Answer.Read (given_fields r)); addresses = given_addresses r; metrics = r.metrics } in
+      let given : Reading = record { numbers = numbers_of_pcrep (Ok (given_fields r)); addresses = given_addresses r; metrics = r.metrics } in
       let read : reading (take n exit) addresses kinds flags values ≡ given =
       ap (λ (s : List ℕ). read_pcrep s (length addresses) (least3 kinds flags values)) same_bytes
       ∙ pcrep-reads-back r unequal (length entry) fits wrote.0 (length addresses) (least3 kinds flags values) room metric-room in

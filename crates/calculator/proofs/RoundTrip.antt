@@ -4,8 +4,9 @@ use Prim.Native.Nat.{ℕ, ◌^◌, ◌≤◌, ◌<◌}
 use mathlib.Core.Path.{◌≡◌, sym, ap, ap₂, ◌∙◌}
 use mathlib.Core.List.{List, map}
 use lib.ListN.{length, get_or, take}
-use Rattle.model.specs.declared.ReadAnswer.{ReadAnswer}
-use Rattle.model.specs.declared.WriteAnswer.TheVariants.{Written}
+use Rattle.std.specs.Prelude.{Result, Ok}
+use Rattle.model.specs.declared.ReadCounts.{ReadCounts}
+use Rattle.model.specs.declared.Refusal.{Refusal}
 use Rattle.model.specs.Lists.{over}
 use Rattle.model.specs.Profile.{domains}
 use Rattle.model.specs.Sequence.{Stop}
@@ -21,7 +22,7 @@ use Rattle.buffers.specs.Capacity.{least4}
 use Rattle.list_reader.specs.ReadInclude.{ReadIs}
 
 -- what comes back: how many domains and bytes of EXRS, and what stands in each buffer
-pub record ReadBack (indexes marks nodes counts exrs ds ms ns cs xs : List ℕ) (answer : ReadAnswer) (ds' ms' ns' cs' xs' : List ℕ) : Type 0 where
+pub record ReadBack (indexes marks nodes counts exrs ds ms ns cs xs : List ℕ) (answer : Result ReadCounts Refusal) (ds' ms' ns' cs' xs' : List ℕ) : Type 0 where
   pub count : numbers_of_read answer ≡ done3 (length indexes) (length exrs)
   pub in_domains : ds' ≡ over indexes ds
   pub in_marks : ms' ≡ over marks ms
@@ -30,7 +31,7 @@ pub record ReadBack (indexes marks nodes counts exrs ds ms ns cs xs : List ℕ) 
   pub in_exrs : xs' ≡ over exrs xs
 
 module _ (profile indexes marks nodes counts exrs entry exit : List ℕ) (n : ℕ) (profile-bytes : Bytes profile) (addresses : (i : ℕ) → get_or nodes i 0 < 2 ^ 32) (exrs-bytes : Bytes exrs)
-    (w : WrittenBy profile indexes marks nodes counts exrs entry exit (Written n)) where
+    (w : WrittenBy profile indexes marks nodes counts exrs entry exit (Ok n)) where
   abbrev wrote_it : Outcome ℕ
   wrote_it = write_list profile indexes marks nodes counts exrs (length entry)
 
@@ -42,7 +43,7 @@ module _ (profile indexes marks nodes counts exrs entry exit : List ℕ) (n : �
   same_bytes =
       ap₂ (λ (k : ℕ) (s : List ℕ). take k s) (facts.size ∙ ap length (sym facts.bytes-written)) w.buffer ∙ over-take wrote_it.written entry
 
-  pub round_trip : (ds ms ns cs xs : List ℕ) (answer : ReadAnswer) (ds' ms' ns' cs' xs' : List ℕ) → length indexes ≤ least4 ds ms ns cs → length exrs ≤ length xs
+  pub round_trip : (ds ms ns cs xs : List ℕ) (answer : Result ReadCounts Refusal) (ds' ms' ns' cs' xs' : List ℕ) → length indexes ≤ least4 ds ms ns cs → length exrs ≤ length xs
       → ReadIs profile (get_or indexes 0 0) (take n exit) ds ms ns cs xs answer ds' ms' ns' cs' xs' → ReadBack indexes marks nodes counts exrs ds ms ns cs xs answer ds' ms' ns' cs' xs'
   round_trip ds ms ns cs xs answer ds' ms' ns' cs' xs' room spare r =
       let a : Accepts (domains profile) indexes marks nodes counts exrs = accepts (domains profile) indexes marks nodes counts exrs facts.writable in

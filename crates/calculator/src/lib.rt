@@ -11,7 +11,7 @@ ghost use Rattle.request.specs.CheckedRequest.{request_of};
 use call_numbers::{tell_read, tell_tree, tell_write};
 use list_reader::read::read_include;
 use list_writer::writer::write_list;
-use model::{DomainIndex, ProfileAnswer};
+use model::DomainIndex;
 use profile_check::check_profile;
 use request::limits::asked_of;
 use tree_fields::tree_numbers;
@@ -24,13 +24,12 @@ pub mod paths;
 pub extern "C" fn yq_check_profile(profile: &[u8], numbers: &mut [u32; 1]) -> u32
     ensures { (result ≡ (check_profile profile.now).answer) × (numbers.new ≡ (check_profile profile.now).others) }
 {
-    let answer = check_profile(profile);
-    match answer {
-        ProfileAnswer::Accepted => {
+    match check_profile(profile) {
+        Ok(()) => {
             *numbers = [0];
             0
         }
-        ProfileAnswer::Refused(r) => {
+        Err(r) => {
             *numbers = [r.place];
             r.number
         }

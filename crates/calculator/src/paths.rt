@@ -7,7 +7,7 @@ ghost use Rattle.calculator.specs.Exports.{PathExport, SeriesExport};
 
 use path_answers::numbers::tell;
 use path_calls::{first, next};
-use path_series::{SeriesAnswer, run};
+use path_series::{MalformedSeries, run};
 use request::limits::asked_of;
 
 // numbers: place, total, bits of the total's float, round
@@ -100,7 +100,7 @@ pub extern "C" fn yq_series(
         profile, asked, include, exclude, kinds, sizes, buffers, numbers,
     );
     match answer {
-        SeriesAnswer::Done => 0,
-        SeriesAnswer::Malformed => 100,
+        Ok(()) => 0,
+        Err(MalformedSeries) => 100,
     }
 }
