@@ -56,7 +56,7 @@ module _ (k : MessageKind) (c : ℕ) (far : 18 ≤ c) where
       let both = and_both (ltb r.class 18) (all (λ (x : ObjectRule). ltb x.class 18) rules) e in
       rw (no_class (in_message k r) (eqb c r.class) (other r.class both.0)) (far_rows_own n rules both.1)
 
-far_least : (k : MessageKind) (c : ℕ) → 18 ≤ c → get_or (leasts k) c 0 ≡ 0
+pub far_least : (k : MessageKind) (c : ℕ) → 18 ≤ c → get_or (leasts k) c 0 ≡ 0
 far_least Pcreq c h = get_or-eq_default (leasts Pcreq) 0 {n = c} h
 far_least Pcrep c h = get_or-eq_default (leasts Pcrep) 0 {n = c} h
 

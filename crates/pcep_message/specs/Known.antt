@@ -26,17 +26,6 @@ length_of Ero = 4
 length_of Iro = 4
 length_of Xro = 8
 
--- the place among those that are noted on the way
-abbrev pub slot_of : Known → ℕ
-slot_of Rp = 0
-slot_of NoPath = 1
-slot_of EndPoints = 2
-slot_of Bandwidth = 3
-slot_of Metric = 4
-slot_of Ero = 5
-slot_of Iro = 6
-slot_of Xro = 7
-
 -- 0 for an object that isn't known
 abbrev pub known_class : Option Known → ℕ
 known_class None = 0

@@ -38,18 +38,18 @@ places m =
 abbrev pub first_at : Objects → ℕ → Option ℕ
 first_at m c = get_or (places m) c None
 
--- those noted on the way, by their objects' names
+-- those noted on the way by class, by their objects' names
 abbrev pub objects_met : List (Option ℕ) → Objects
 objects_met met =
     record {
-      rp = get_or met 0 None;
-      no_path = get_or met 1 None;
-      end_points = get_or met 2 None;
-      bandwidth = get_or met 3 None;
-      metric = get_or met 4 None;
-      ero = get_or met 5 None;
-      iro = get_or met 6 None;
-      xro = get_or met 7 None;
+      rp = get_or met 2 None;
+      no_path = get_or met 3 None;
+      end_points = get_or met 4 None;
+      bandwidth = get_or met 5 None;
+      metric = get_or met 6 None;
+      ero = get_or met 7 None;
+      iro = get_or met 10 None;
+      xro = get_or met 17 None;
     }
 
 -- where the first object of each class that is known in the message starts

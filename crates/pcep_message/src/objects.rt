@@ -1,24 +1,24 @@
 // A PCEP message's objects in turn, 37 and 38, with where the first one of each known class starts.
 ghost use Rattle.std.specs.Prelude.{◌≡◌, ◌≤◌, ◌<◌, ◌/◌, ◌%◌, ◌&&◌, eqb, length, Some};
 ghost use Rattle.std.specs.Option.{is_none, option_or};
-ghost use Rattle.pcep_message.specs.Known.{KnownIs, length_of, slot_of, fits};
+ghost use Rattle.pcep_message.specs.Known.{KnownIs, class_of, length_of, fits};
 ghost use Rattle.pcep_message.specs.Walked.{size_refused, ObjectIs, ObjectsAre, objects_met};
 
 use model::{Reason, Refusal};
 use pcep_model::MessageKind;
 use wire::u16_at;
 
-// The known objects, each of a class of its own and of type 1.
+// The known objects by their classes, each of type 1.
 #[derive(Clone, Copy)]
 enum Known {
-    Rp,
-    NoPath,
-    EndPoints,
-    Bandwidth,
-    Metric,
-    Ero,
-    Iro,
-    Xro,
+    Rp = 2,
+    NoPath = 3,
+    EndPoints = 4,
+    Bandwidth = 5,
+    Metric = 6,
+    Ero = 7,
+    Iro = 10,
+    Xro = 17,
 }
 
 // What an object of this class and type is, where this message knows it.
@@ -141,27 +141,27 @@ fn first_of(known: Option<u16>, at: u16) -> Option<u16>
     known.or(Some(at))
 }
 
-// Where the places of an object stand among those met.
-fn slot(object: Known) -> usize
-    ensures { (result ≡ slot_of object) × (result < 8) }
+// Its class.
+fn class_of(object: Known) -> usize
+    ensures { (result ≡ class_of object) × (result < 18) }
 {
     object as usize
 }
 
-// The places met, by the objects' names.
-fn objects_met(met: [Option<u16>; 8]) -> Objects
-    requires { length met ≡ 8 }
+// The places met by class, by the objects' names.
+fn objects_met(met: [Option<u16>; 18]) -> Objects
+    requires { length met ≡ 18 }
     ensures { result ≡ objects_met met }
 {
     Objects {
-        rp: met[0],
-        no_path: met[1],
-        end_points: met[2],
-        bandwidth: met[3],
-        metric: met[4],
-        ero: met[5],
-        iro: met[6],
-        xro: met[7],
+        rp: met[2],
+        no_path: met[3],
+        end_points: met[4],
+        bandwidth: met[5],
+        metric: met[6],
+        ero: met[7],
+        iro: met[10],
+        xro: met[17],
     }
 }
 
@@ -170,13 +170,13 @@ pub fn objects_in(kind: MessageKind, message: &[u8]) -> Result<Objects, Refusal>
     requires { (4 ≤ length message.now) × (length message.now ≤ 65535) }
     ensures { ObjectsAre kind message.now result }
 {
-    let mut met = [None; 8];
+    let mut met = [None; 18];
     let mut at: usize = 4;
     while at < message.len() {
         let object = object_at(kind, message, at)?;
         if let Some(known) = object.known {
-            let i = slot(known);
-            met[i] = first_of(met[i], at as u16);
+            let class = class_of(known);
+            met[class] = first_of(met[class], at as u16);
         }
         at = object.next;
     }

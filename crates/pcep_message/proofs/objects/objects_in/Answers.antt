@@ -1,12 +1,11 @@
 -- `pcep_message::objects::objects_in` meets its contract. The loop's invariant is `Walked`; the measure is what is left of the message.
 use native.Mathlib.Omega.{arith}
 use mathlib.Core.Path.{◌≡◌, sym, ap, subst, ◌∙◌}
-use lib.ListN.{length-set}
 use Rattle.std.proofs.Common.{rules}
 use Rattle.std.specs.Prelude.{Err}
 use Rattle.pcep_laws.proofs.Objects.{right_object}
 use Rattle.pcep_message.specs.Known.{known_class}
-use Rattle.pcep_message.specs.Walked.{ObjectIs, ObjectPassed, ObjectsAre, objects_met}
+use Rattle.pcep_message.specs.Walked.{ObjectIs, ObjectPassed, ObjectsAre}
 use Rattle.pcep_message.proofs.Walked.{walk_refused, walk_ends, walk_notes, walk_skips}
 use Rattle.pcep_message.proofs.objects.objects_in.Goals as goal
 use Rattle.pcep_message.proofs.objects.objects_in.Goals.{In_ok-object}
@@ -24,7 +23,7 @@ returns-in_err-object c =
     let x = c.in_err-object.field-0.0 in
     let out : c.from_residual.result ≡ Err x = search rules in
     subst (ObjectsAre a.kind a.message.now) (sym out)
-    (walk_refused a.kind a.message.now l.at (objects_met l.met) l.invariant.1 c.loop-at-test.true x (subst (ObjectIs a.kind a.message.now l.at) c.in_err-object.was c.object_at.ensures))
+    (walk_refused a.kind a.message.now l.at l.met l.invariant c.loop-at-test.true x (subst (ObjectIs a.kind a.message.now l.at) c.in_err-object.was c.object_at.ensures))
 
 pub loop-at-smaller-in-Some : goal.loop-at-smaller-in-Some
 loop-at-smaller-in-Some c =
@@ -45,25 +44,19 @@ loop-at-preserved-in-Some c =
     let a = c.args in
     let l = c.loop-at in
     let o = passed (goal.at.loop-at-preserved-in-Some c).In_ok-object in
-    let i = c.slot-i in
-    let x = c.first_of in (
-      length-set l.met i.result x.result ∙ l.invariant.0,
-      rw o.next-is
-          (walk_notes a.kind a.message.now l.at l.met l.invariant.0 l.invariant.1 c.loop-at-test.true o.verdict c.in-Some.known (sym (ap known_class c.in-Some.is) ∙ o.class-is) i.result i.ensures.0 x.result x.ensures),
-    )
+    let i = c.class_of-class in
+    rw o.next-is
+    (walk_notes a.kind a.message.now l.at l.met l.invariant c.loop-at-test.true o.verdict i.result (i.ensures.0 ∙ sym (ap known_class c.in-Some.is) ∙ o.class-is) i.ensures.1 c.first_of.result c.first_of.ensures)
 
 pub loop-at-preserved : goal.loop-at-preserved
 loop-at-preserved c =
     let a = c.args in
     let l = c.loop-at in
-    let o = passed (goal.at.loop-at-preserved c).In_ok-object in (
-      l.invariant.0,
-      rw o.next-is
-          (walk_skips a.kind a.message.now l.at (objects_met l.met) l.invariant.1 c.loop-at-test.true o.verdict (sym (ap known_class c.in_default.is) ∙ o.class-is)),
-    )
+    let o = passed (goal.at.loop-at-preserved c).In_ok-object in
+    rw o.next-is (walk_skips a.kind a.message.now l.at l.met l.invariant c.loop-at-test.true o.verdict (sym (ap known_class c.in_default.is) ∙ o.class-is))
 
 pub returns : goal.returns
 returns c =
     let a = c.args in
     let l = c.loop-at in
-    rw c.objects_met.ensures (walk_ends a.kind a.message.now l.at (objects_met l.met) l.invariant.1 c.loop-at-test.false)
+    rw c.objects_met.ensures (walk_ends a.kind a.message.now l.at l.met l.invariant c.loop-at-test.false)
