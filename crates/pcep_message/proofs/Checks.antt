@@ -16,9 +16,8 @@ use Rattle.pcep_model.specs.declared.MessageKind.{MessageKind}
 use Rattle.pcep_model.specs.Objects.{class_at, type_at, demanded_at, size_at, size_wrong, known_object, object_verdict}
 use Rattle.pcep_laws.specs.Table.{least_of, fits_least}
 use Rattle.pcep_laws.proofs.Table.{known_is, own_is}
-use Rattle.pcep_message.specs.declared.objects.Known.{Known}
-use Rattle.pcep_message.specs.declared.objects.Known.TheVariants.{Rp, NoPath, EndPoints, Bandwidth, Metric, Ero, Iro, Xro}
-use Rattle.pcep_message.specs.Known.{known_length, length_of, KnownIs, fits}
+use Rattle.pcep_laws.specs.Firsts.{placed}
+use Rattle.pcep_message.specs.Known.{fits, class_if}
 use Rattle.pcep_message.specs.Walked.{size_refused, ObjectPassed}
 
 same_left : (l at n : ℕ) → at ≤ l → ltb l (at + n) ≡ ltb (l - at) n
@@ -28,28 +27,14 @@ same_left l at n h =
     (λ (f : ltb (l - at) n ≡ false). let g = ltb-false (l - at) n f in le-ltb l (at + n) (omega arith) ∙ sym f)
     (decide (ltb (l - at) n))
 
--- a known object has a least length
-length-some : (o : Known) → eqb (length_of o) 0 ≡ false
-length-some Rp = refl
-length-some NoPath = refl
-length-some EndPoints = refl
-length-some Bandwidth = refl
-length-some Metric = refl
-length-some Ero = refl
-length-some Iro = refl
-length-some Xro = refl
+none_by : (l : ℕ) (none : Bool) → is_none (cond none None (Some l)) ≡ none
+none_by l true = refl
+none_by l false = refl
 
-none_is : (r : Option Known) → is_none r ≡ eqb (known_length r) 0
-none_is None = refl
-none_is (Some o) = sym (length-some o)
-
--- of what isn't known the class doesn't count
-any_class : (c n : ℕ) (l : ℕ) → fits_least (cond (eqb l 0) 0 c) l n ≡ fits_least c l n
-any_class c n l = by (eqb l 0) refl
-  where
-    by : (none : Bool) → eqb l 0 ≡ none → fits_least (cond none 0 c) l n ≡ fits_least c l n
-    by true e = rw e refl
-    by false e = refl
+-- what isn't known can have any length
+fits_by : (c l n : ℕ) (none : Bool) → eqb l 0 ≡ none → fits_least c l n ≡ fits c (cond none None (Some l)) n
+fits_by c l n true e = rw e refl
+fits_by c l n false e = rw e refl
 
 module _ (k : MessageKind) (s : List ℕ) (at : ℕ) where
   abbrev least : ℕ
@@ -60,14 +45,12 @@ module _ (k : MessageKind) (s : List ℕ) (at : ℕ) where
   unfolding object_verdict
   short h = rw (lt-ltb (length s) (at + 4) h) refl
 
-  module _ (h : at + 4 ≤ length s) (r : Option Known) (is : KnownIs k (class_at s at) (type_at s at) r) where
+  module _ (h : at + 4 ≤ length s) (r : Option ℕ) (is : r ≡ placed least) where
     abbrev size : Bool
-    size = size_refused r (size_at s at) (length s - at)
+    size = size_refused (class_at s at) r (size_at s at) (length s - at)
 
-    fits_same : fits_least (class_at s at) least (size_at s at) ≡ fits r (size_at s at)
-    fits_same =
-        sym (any_class (class_at s at) (size_at s at) least)
-        ∙ sym (ap₂ (λ (c l : ℕ). fits_least c l (size_at s at)) is.class is.least)
+    fits_same : fits_least (class_at s at) least (size_at s at) ≡ fits (class_at s at) r (size_at s at)
+    fits_same = fits_by (class_at s at) least (size_at s at) (eqb least 0) refl ∙ ap (λ (o : Option ℕ). fits (class_at s at) o (size_at s at)) (sym is)
 
     size_same : size_wrong k s at ≡ size
     size_same =
@@ -79,7 +62,7 @@ module _ (k : MessageKind) (s : List ℕ) (at : ℕ) where
     unknown-same =
         ap not (known_is k (class_at s at) (type_at s at))
         ∙ not-not (eqb least 0)
-        ∙ sym (none_is r ∙ ap (λ (l : ℕ). eqb l 0) is.least)
+        ∙ sym (ap is_none is ∙ none_by least (eqb least 0))
 
     -- an unknown object that is demanded
     abbrev unknown : Bool
@@ -96,5 +79,5 @@ module _ (k : MessageKind) (s : List ℕ) (at : ℕ) where
       pub demanded-refused : unknown ≡ true → object_verdict k s at ≡ refuse_if true 38 at
       demanded-refused u = long ∙ rw (right, u) refl
 
-      pub object-passes : unknown ≡ false → (n : ℕ) → n ≡ size_at s at → ObjectPassed k s at (record { known = r; next = at + n })
-      object-passes u n e = record { verdict = long ∙ rw (right, u) refl; class-is = is.class; next-is = ap (λ (x : ℕ). at + x) e }
+      pub object-passes : unknown ≡ false → (n : ℕ) → n ≡ size_at s at → ObjectPassed k s at (record { class = class_if r (class_at s at); next = at + n })
+      object-passes u n e = record { verdict = long ∙ rw (right, u) refl; class-is = ap (λ (o : Option ℕ). class_if o (class_at s at)) is; next-is = ap (λ (x : ℕ). at + x) e }

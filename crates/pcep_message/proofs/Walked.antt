@@ -7,12 +7,13 @@ use mathlib.Core.Path.{◌≡◌, refl, sym, ap, subst, ◌∙◌}
 use mathlib.Core.Bool.{Bool, true, false, cond, ◌&&◌}
 use mathlib.Core.List.{List}
 use lib.ListN.{length, get_or, set, replicate, length-set}
-use lib.Dec.{eqb}
-use borrow.Author.Tests.{eqb-true, eqb-false, ne_eqb}
+use mathlib.Core.Logic.{⊎_elim}
+use lib.Dec.{eqb, ltb}
+use borrow.Author.Tests.{eqb-true, eqb-false, ne_eqb, ltb-true, ltb-false}
 use lib.Seq.{get_or-set_same, get_or-set_other}
 use Rattle.model.specs.Verdict.{Pass}
 use Rattle.model.specs.declared.Refusal.{Refusal}
-use Rattle.laws.proofs.Tests.{and_all, and_none}
+use Rattle.laws.proofs.Tests.{decide, clash, and_all, and_none}
 use Rattle.pcep_model.specs.declared.MessageKind.{MessageKind}
 use Rattle.pcep_model.specs.declared.MessageKind.TheVariants.{Pcreq, Pcrep}
 use Rattle.model.specs.Along.{first_of}
@@ -22,16 +23,19 @@ use Rattle.pcep_laws.proofs.Table.{far_least}
 use Rattle.pcep_laws.specs.Firsts.{placed, noted}
 use Rattle.laws.proofs.Along as Along
 use Rattle.pcep_laws.proofs.Objects.{right_object, further, first_end, first_next, noted-kept, none-to_come}
+use Rattle.pcep_message.specs.Known.{class_if}
 use Rattle.pcep_message.specs.Walked.{class_known, first_at, objects_met, ObjectsPassed}
-
--- no class 0 is known
-no_zero : (k : MessageKind) (c : ℕ) → 0 < get_or (leasts k) c 0 → eqb 0 c ≡ false
-no_zero Pcreq zero h = absurd (omega arith)
-no_zero Pcrep zero h = absurd (omega arith)
-no_zero k (suc c) h = ne_eqb 0 (suc c) (λ e. omega arith)
 
 abbrev no-place : Option ℕ
 no-place = None
+
+abbrev mark : Option ℕ → ℕ
+mark None = 0
+mark (Some x) = 1
+
+abbrev value : Option ℕ → ℕ
+value None = 0
+value (Some x) = x
 
 -- no place is known at first
 nothing-met : (n c : ℕ) → get_or (replicate n no-place) c no-place ≡ no-place
@@ -92,24 +96,45 @@ module _ (met : List (Option ℕ)) (o at : ℕ) (x : Option ℕ) (h : o < length
   noted_at c = noted_by_class c (eqb o c) refl
 
 module _ (k : MessageKind) (s : List ℕ) where
+  abbrev here : ℕ → ℕ
+  here at = class_at s at
+
   -- the class that the code goes by is that of the object, for every class known in the message
-  module _ (at c : ℕ) (known : 0 < get_or (leasts k) c 0) where
-    abbrev here : ℕ
-    here = class_at s at
+  module _ (at : ℕ) where
+    some_by : (one none : Bool) (c o : ℕ) → eqb (type_at s at) 1 ≡ one → eqb (cond one (get_or (leasts k) (here at) 0) 0) 0 ≡ none
+        → class_if (cond none None (Some (cond one (get_or (leasts k) (here at) 0) 0))) (here at) ≡ Some o → eqb o c ≡ is_object c s at
+    some_by true true c o t e x = absurd (let z : ◌≡◌ {A = ℕ} 0 1 = ap mark x in omega arith)
+    some_by false true c o t e x = absurd (let z : ◌≡◌ {A = ℕ} 0 1 = ap mark x in omega arith)
+    some_by true false c o t e x = ap (λ (i : ℕ). eqb i c) (sym (ap value x)) ∙ and_all (eqb (here at) c) ∙ sym (rw t refl)
+    some_by false false c o t e x = absurd (clash refl e)
 
-    by_row : (none : Bool) → eqb (get_or (leasts k) here 0) 0 ≡ none → eqb (cond none 0 here) c ≡ eqb here c
-    by_row true e = no_zero k c known ∙ sym (ne_eqb here c (λ (x : here ≡ c). let z = eqb-true _ 0 e in absurd_row (ap (λ (i : ℕ). get_or (leasts k) i 0) x) z))
-      where
-        absurd_row : get_or (leasts k) here 0 ≡ get_or (leasts k) c 0 → get_or (leasts k) here 0 ≡ 0 → ⊥
-        absurd_row x z = omega arith
-    by_row false e = refl
+    pub known_same : (c o : ℕ) → class_known k s at ≡ Some o → eqb o c ≡ is_object c s at
+    known_same c o x = some_by (eqb (type_at s at) 1) (eqb (cond (eqb (type_at s at) 1) (get_or (leasts k) (here at) 0) 0) 0) c o refl refl x
 
-    by_type : (one : Bool) → eqb (cond (eqb (cond one (get_or (leasts k) here 0) 0) 0) 0 here) c ≡ (eqb here c && one)
-    by_type true = by_row (eqb (get_or (leasts k) here 0) 0) refl ∙ and_all (eqb here c)
-    by_type false = no_zero k c known ∙ and_none (eqb here c)
+    none_row : (one none : Bool) (c : ℕ) → 0 < get_or (leasts k) c 0 → eqb (type_at s at) 1 ≡ one → eqb (cond one (get_or (leasts k) (here at) 0) 0) 0 ≡ none
+        → class_if (cond none None (Some (cond one (get_or (leasts k) (here at) 0) 0))) (here at) ≡ None → is_object c s at ≡ false
+    none_row false none c h t e x = rw t (sym (and_none (eqb (here at) c)))
+    none_row true true c h t e x =
+        let z = eqb-true _ 0 e in
+        ap (λ (b : Bool). b && eqb (type_at s at) 1) (ne_eqb (here at) c (λ (y : here at ≡ c). let r = ap (λ (i : ℕ). get_or (leasts k) i 0) y in omega arith))
+    none_row true false c h t e x = absurd (let z : ◌≡◌ {A = ℕ} 1 0 = ap mark x in omega arith)
 
-    pub known_same : eqb (class_known k s at) c ≡ is_object c s at
-    known_same = by_type (eqb (type_at s at) 1)
+    pub none_same : (c : ℕ) → 0 < get_or (leasts k) c 0 → class_known k s at ≡ None → is_object c s at ≡ false
+    none_same c h x = none_row (eqb (type_at s at) 1) (eqb (cond (eqb (type_at s at) 1) (get_or (leasts k) (here at) 0) 0) 0) c h refl refl x
+
+    small_by : (one none : Bool) (o : ℕ) → eqb (cond one (get_or (leasts k) (here at) 0) 0) 0 ≡ none
+        → class_if (cond none None (Some (cond one (get_or (leasts k) (here at) 0) 0))) (here at) ≡ Some o → o < 18
+    small_by one true o e x = absurd (let z : ◌≡◌ {A = ℕ} 0 1 = ap mark x in omega arith)
+    small_by false false o e x = absurd (clash refl e)
+    small_by true false o e x =
+        let same : here at ≡ o = ap value x in
+        ⊎_elim
+        (λ (t : ltb o 18 ≡ true). ltb-true o 18 t)
+        (λ (f : ltb o 18 ≡ false). absurd (eqb-false _ 0 e (far_least k (here at) (let g = ltb-false o 18 f in omega arith))))
+        (decide (ltb o 18))
+
+    pub class-small : (o : ℕ) → class_known k s at ≡ Some o → o < 18
+    class-small o x = small_by (eqb (type_at s at) 1) (eqb (cond (eqb (type_at s at) 1) (get_or (leasts k) (here at) 0) 0) 0) o refl x
 
   pub record Walked (at : ℕ) (met : List (Option ℕ)) : Type 0 where
     pub start : 4 ≤ at
@@ -169,11 +194,11 @@ module _ (k : MessageKind) (s : List ℕ) where
           }
 
       pub walk_notes
-          : (o : ℕ) → o ≡ class_known k s at → o < 18 → (x : Option ℕ) → x ≡ option_or (get_or met o None) (Some at) → Walked (after_object s at) (set met o x)
-      walk_notes o is small x e =
+          : (o : ℕ) → class_known k s at ≡ Some o → (x : Option ℕ) → x ≡ option_or (get_or met o None) (Some at) → Walked (after_object s at) (set met o x)
+      walk_notes o is x e =
           next (set met o x) (length-set met o x ∙ w.long)
-          (λ c known. noted_at met o at x (omega (arith, w.long)) e c ∙ ap (λ (b : Bool). noted b (get_or met c None) at) (ap (λ (i : ℕ). eqb i c) is ∙ known_same at c known))
+          (λ c known. noted_at met o at x (let l = class-small at o is in omega (arith, w.long)) e c ∙ ap (λ (b : Bool). noted b (get_or met c None) at) (known_same at c o is))
 
-      pub walk_skips : 0 ≡ class_known k s at → Walked (after_object s at) met
+      pub walk_skips : class_known k s at ≡ None → Walked (after_object s at) met
       walk_skips is =
-          next met w.long (λ c known. ap (λ (b : Bool). noted b (get_or met c None) at) (sym (no_zero k c known) ∙ ap (λ (i : ℕ). eqb i c) is ∙ known_same at c known))
+          next met w.long (λ c known. ap (λ (b : Bool). noted b (get_or met c None) at) (sym (none_same at c known is)))

@@ -1,28 +1,27 @@
 -- What the walk along a message's objects answers, over `Objects` of `pcep_model`.
-use Rattle.std.specs.Prelude.{ℕ, ◌%◌, ◌<◌, ◌≡◌, Bool, not, cond, ◌||◌, List, [], ◌∷◌, get_or, eqb, ltb, Option, None, Result, Ok, Err}
+use Rattle.std.specs.Prelude.{ℕ, ◌%◌, ◌<◌, ◌≡◌, Bool, not, ◌||◌, List, [], ◌∷◌, get_or, eqb, ltb, Option, None, Result, Ok, Err}
 use Rattle.model.specs.Verdict.{Pass}
 use Rattle.model.specs.declared.Refusal.{Refusal}
 use Rattle.pcep_model.specs.declared.MessageKind.{MessageKind}
 use Rattle.pcep_model.specs.Objects.{class_at, type_at, after_object, object_verdict, objects_verdict, first_object}
 use Rattle.pcep_laws.specs.Table.{leasts, least_of}
 use Rattle.pcep_laws.specs.Firsts.{placed}
-use Rattle.pcep_message.specs.declared.objects.Known.{Known}
 use Rattle.pcep_message.specs.declared.objects.Object.{Object}
 use Rattle.pcep_message.specs.declared.objects.Objects.{Objects}
-use Rattle.pcep_message.specs.Known.{known_class, fits}
+use Rattle.pcep_message.specs.Known.{fits, class_if}
 
 -- a wrong length, by what is left of the message
-abbrev pub size_refused : Option Known → ℕ → ℕ → Bool
-size_refused o n left = ltb n 4 || (not (eqb (n % 4) 0) || (ltb left n || not (fits o n)))
+abbrev pub size_refused : ℕ → Option ℕ → ℕ → ℕ → Bool
+size_refused c least n left = ltb n 4 || (not (eqb (n % 4) 0) || (ltb left n || not (fits c least n)))
 
--- the class of the object at an offset, 0 where it isn't known
-abbrev pub class_known : MessageKind → List ℕ → ℕ → ℕ
-class_known k s at = cond (eqb (least_of k (class_at s at) (type_at s at)) 0) 0 (class_at s at)
+-- the class of the object at an offset, where it is known
+abbrev pub class_known : MessageKind → List ℕ → ℕ → Option ℕ
+class_known k s at = class_if (placed (least_of k (class_at s at) (type_at s at))) (class_at s at)
 
--- an object that passes: what it is, and where the next one starts
+-- an object that passes: its class, if it is known, and where the next one starts
 pub record ObjectPassed (k : MessageKind) (s : List ℕ) (at : ℕ) (o : Object) : Type 0 where
   pub verdict : object_verdict k s at ≡ Pass
-  pub class-is : known_class o.known ≡ class_known k s at
+  pub class-is : o.class ≡ class_known k s at
   pub next-is : o.next ≡ after_object s at
 
 abbrev pub ObjectIs : MessageKind → List ℕ → ℕ → Result Object Refusal → Type 0

@@ -1,100 +1,104 @@
 // A PCEP message's objects in turn, 37 and 38, with where the first one of each known class starts.
 ghost use Rattle.std.specs.Prelude.{◌≡◌, ◌≤◌, ◌<◌, ◌/◌, ◌%◌, ◌&&◌, eqb, length, Some};
 ghost use Rattle.std.specs.Option.{is_none, option_or};
-ghost use Rattle.pcep_message.specs.Known.{KnownIs, class_of, length_of, fits};
+ghost use Rattle.pcep_laws.specs.Firsts.{placed};
+ghost use Rattle.pcep_laws.specs.Table.{least_of};
+ghost use Rattle.pcep_message.specs.Known.{fits_known, class_if};
 ghost use Rattle.pcep_message.specs.Walked.{size_refused, ObjectIs, ObjectsAre, objects_met};
 
 use model::{Reason, Refusal};
 use pcep_model::MessageKind;
-use wire::u16_at;
+use wire::{u16_at, wide};
 
-// The known objects by their classes, each of type 1.
-#[derive(Clone, Copy)]
-enum Known {
-    Rp = 2,
-    NoPath = 3,
-    EndPoints = 4,
-    Bandwidth = 5,
-    Metric = 6,
-    Ero = 7,
-    Iro = 10,
-    Xro = 17,
-}
+// The classes of the known objects.
+const RP: u8 = 2;
 
-// What an object of this class and type is, where this message knows it.
-fn known_object(kind: MessageKind, class: u8, form: u8) -> Option<Known>
-    ensures { KnownIs kind class form result }
+const NO_PATH: u8 = 3;
+
+const END_POINTS: u8 = 4;
+
+const BANDWIDTH: u8 = 5;
+
+const METRIC: u8 = 6;
+
+const ERO: u8 = 7;
+
+const IRO: u8 = 10;
+
+const XRO: u8 = 17;
+
+// The least length of an object of this class and type, where the message knows it. Each known object has a class of its own and type 1.
+fn least_of(kind: MessageKind, class: u8, form: u8) -> Option<usize>
+    ensures { result ≡ placed (least_of kind class form) }
 {
     if form != 1 {
         return None;
     }
     match kind {
         MessageKind::Pcreq => match class {
-            2 => Some(Known::Rp),
-            4 => Some(Known::EndPoints),
-            5 => Some(Known::Bandwidth),
-            6 => Some(Known::Metric),
-            10 => Some(Known::Iro),
-            17 => Some(Known::Xro),
+            RP => Some(12),
+            END_POINTS => Some(12),
+            BANDWIDTH => Some(8),
+            METRIC => Some(12),
+            IRO => Some(4),
+            XRO => Some(8),
             _ => None,
         },
         MessageKind::Pcrep => match class {
-            2 => Some(Known::Rp),
-            3 => Some(Known::NoPath),
-            6 => Some(Known::Metric),
-            7 => Some(Known::Ero),
+            RP => Some(12),
+            NO_PATH => Some(8),
+            METRIC => Some(12),
+            ERO => Some(4),
             _ => None,
         },
     }
 }
 
-// Its least length.
-fn least_of(object: Known) -> usize
-    ensures { result ≡ length_of object }
+// A known object of this class can be n bytes long. Those that nothing can make longer have their least length alone.
+fn fits(class: u8, least: usize, n: usize) -> bool
+    ensures { result ≡ fits_known class least n }
 {
-    match object {
-        Known::Rp | Known::EndPoints | Known::Metric => 12,
-        Known::NoPath | Known::Bandwidth | Known::Xro => 8,
-        Known::Ero | Known::Iro => 4,
-    }
-}
-
-// It can be n bytes long. Those that nothing can make longer have their least length alone.
-fn fits(object: Known, n: usize) -> bool
-    ensures { result ≡ fits (Some object) n }
-{
-    let least = least_of(object);
-    match object {
-        Known::EndPoints | Known::Bandwidth | Known::Metric => n == least,
+    match class {
+        END_POINTS | BANDWIDTH | METRIC => n == least,
         _ => least <= n,
     }
 }
 
 // A length under 4, not a multiple of 4, past what is left of the message, or not the object's own.
-fn size_wrong(object: Option<Known>, n: usize, left: usize) -> bool
-    ensures { result ≡ size_refused object n left }
+fn size_wrong(class: u8, least: Option<usize>, n: usize, left: usize) -> bool
+    ensures { result ≡ size_refused class least n left }
 {
     if n < 4 || n % 4 != 0 || left < n {
         return true;
     }
-    match object {
-        Some(known) => !fits(known, n),
+    match least {
+        Some(own) => !fits(class, own, n),
         None => false,
     }
 }
 
 // An object that isn't known, by whose second byte P is set.
-fn demanded(object: Option<Known>, second: u8) -> bool
-    ensures { result ≡ (is_none object && eqb (second / 2 % 2) 1) }
+fn demanded(least: Option<usize>, second: u8) -> bool
+    ensures { result ≡ (is_none least && eqb (second / 2 % 2) 1) }
 {
-    object.is_none() && second / 2 % 2 == 1
+    least.is_none() && second / 2 % 2 == 1
 }
 
-// An object that passes: what it is, if it is known, and where the next one starts.
+// An object that passes: its class, if it is known, and where the next one starts.
 #[derive(Clone, Copy)]
 struct Object {
-    known: Option<Known>,
+    class: Option<u8>,
     next: usize,
+}
+
+// The class of an object that is known.
+fn class_known(class: u8, least: Option<usize>) -> Option<u8>
+    ensures { result ≡ class_if least class }
+{
+    match least {
+        Some(_) => Some(class),
+        None => None,
+    }
 }
 
 // The object at an offset.
@@ -106,17 +110,18 @@ fn object_at(kind: MessageKind, message: &[u8], at: usize) -> Result<Object, Ref
     if left < 4 {
         return Err(Refusal::new(Reason::WrongObject, at as u32));
     }
+    let class = message[at];
     let second = message[at + 1];
     let n = u16_at(message, at + 2) as usize;
-    let known = known_object(kind, message[at], second / 16);
-    if size_wrong(known, n, left) {
+    let least = least_of(kind, class, second / 16);
+    if size_wrong(class, least, n, left) {
         return Err(Refusal::new(Reason::WrongObject, at as u32));
     }
-    if demanded(known, second) {
+    if demanded(least, second) {
         return Err(Refusal::new(Reason::UnknownObject, at as u32));
     }
     Ok(Object {
-        known,
+        class: class_known(class, least),
         next: at + n,
     })
 }
@@ -139,13 +144,6 @@ fn first_of(known: Option<u16>, at: u16) -> Option<u16>
     ensures { result ≡ option_or known (Some at) }
 {
     known.or(Some(at))
-}
-
-// Its class.
-fn class_of(object: Known) -> usize
-    ensures { (result ≡ class_of object) × (result < 18) }
-{
-    object as usize
 }
 
 // The places met by class, by the objects' names.
@@ -174,9 +172,9 @@ pub fn objects_in(kind: MessageKind, message: &[u8]) -> Result<Objects, Refusal>
     let mut at: usize = 4;
     while at < message.len() {
         let object = object_at(kind, message, at)?;
-        if let Some(known) = object.known {
-            let class = class_of(known);
-            met[class] = first_of(met[class], at as u16);
+        if let Some(class) = object.class {
+            let i = wide(class);
+            met[i] = first_of(met[i], at as u16);
         }
         at = object.next;
     }

@@ -1,10 +1,9 @@
 -- `pcep_message::objects::objects_in` meets its contract. The loop's invariant is `Walked`; the measure is what is left of the message.
 use native.Mathlib.Omega.{arith}
-use mathlib.Core.Path.{◌≡◌, sym, ap, subst, ◌∙◌}
+use mathlib.Core.Path.{◌≡◌, sym, subst, ◌∙◌}
 use Rattle.std.proofs.Common.{rules}
 use Rattle.std.specs.Prelude.{Err}
 use Rattle.pcep_laws.proofs.Objects.{right_object}
-use Rattle.pcep_message.specs.Known.{known_class}
 use Rattle.pcep_message.specs.Walked.{ObjectIs, ObjectPassed, ObjectsAre}
 use Rattle.pcep_message.proofs.Walked.{walk_refused, walk_ends, walk_notes, walk_skips}
 use Rattle.pcep_message.proofs.objects.objects_in.Goals as goal
@@ -44,16 +43,16 @@ loop-at-preserved-in-Some c =
     let a = c.args in
     let l = c.loop-at in
     let o = passed (goal.at.loop-at-preserved-in-Some c).In_ok-object in
-    let i = c.class_of-class in
-    rw o.next-is
-    (walk_notes a.kind a.message.now l.at l.met l.invariant c.loop-at-test.true o.verdict i.result (i.ensures.0 ∙ sym (ap known_class c.in-Some.is) ∙ o.class-is) i.ensures.1 c.first_of.result c.first_of.ensures)
+    let is = sym o.class-is ∙ c.in-Some.is in
+    rw (o.next-is, c.wide-i.ensures.0)
+    (walk_notes a.kind a.message.now l.at l.met l.invariant c.loop-at-test.true o.verdict c.in-Some.class is c.first_of.result (rw c.wide-i.ensures.0 at c.first_of.ensures))
 
 pub loop-at-preserved : goal.loop-at-preserved
 loop-at-preserved c =
     let a = c.args in
     let l = c.loop-at in
     let o = passed (goal.at.loop-at-preserved c).In_ok-object in
-    rw o.next-is (walk_skips a.kind a.message.now l.at l.met l.invariant c.loop-at-test.true o.verdict (sym (ap known_class c.in_default.is) ∙ o.class-is))
+    rw o.next-is (walk_skips a.kind a.message.now l.at l.met l.invariant c.loop-at-test.true o.verdict (sym o.class-is ∙ c.in_default.is))
 
 pub returns : goal.returns
 returns c =
