@@ -3,12 +3,12 @@ use Prim.Native.Nat.{ℕ, zero, suc, ◌+◌, ◌-◌, ◌≤◌, ◌<◌}
 use native.Mathlib.Omega.{arith}
 use mathlib.Core.Path.{◌≡◌, refl, sym, ap, ap₂, subst, ◌∙◌}
 use mathlib.Core.List.{List, [], ◌∷◌, ◌++◌, map}
-use lib.ListN.{length, get_or, take, drop, set, replicate, length-append, length-map, length-replicate, get_or-replicate}
-use lib.Seq.{paste, paste-zero, paste-suc, length-paste, take-length, take_all, length-take-le, drop-drop}
+use lib.ListN.{length, get_or, take, drop, set, length-append, length-map, length-replicate}
+use lib.Seq.{paste, take-length, take_all, length-take-le, drop-drop}
 use Rattle.model.specs.Lists.{count_from, each, over}
 use Rattle.laws.proofs.Lists.{over-length, over-take, over-drop, over_nothing}
 use Rattle.tree_levels.proofs.Blocks.{each_next}
-use Rattle.buffers.proofs.Copies.{Copied, copied_long, copied_more}
+use Rattle.buffers.proofs.Copies.{Copied, copied_more}
 use Rattle.tree_fields.specs.Fields.{levels_at, levels_of, Places}
 
 -- ---- a list of n numbers of which the code writes one after the other
@@ -29,9 +29,6 @@ module _ (f : ℕ → ℕ) where
     part_length = length-map (take n l) f ∙ length-take-le n l inside
 
     module _ (now : List ℕ) (i : ℕ) (c : Copied part old now i) where
-      pub part-long : i ≤ n → length now ≡ length old
-      part-long h = copied_long part old now i c (omega (arith, part_length)) (omega arith)
-
       pub part-more : (x : ℕ) → i < n → x ≡ f (get_or l i 0) → Copied part old (set now i x) (i + 1)
       part-more x h e =
           subst (λ (y : ℕ). Copied part old (set now i y) (i + 1)) (mapped_at l n i h inside ∙ sym e)
@@ -44,31 +41,6 @@ module _ (f : ℕ → ℕ) where
 pub map_same : (l : List ℕ) → map (λ (x : ℕ). x) l ≡ l
 map_same [] = refl
 map_same (x ∷ l) = ap (λ (k : List ℕ). x ∷ k) (map_same l)
-
--- ---- one place's levels
-
-module _ (old : List ℕ) (place from to : ℕ) (order : from ≤ to) (room : to ≤ length old) where
-  abbrev pub Placed : List ℕ → ℕ → Type 0
-  Placed now j = now ≡ paste old from (replicate (to - from) place) (j - from)
-
-  pub placed_none : Placed old from
-  placed_none =
-      let none : 0 ≡ from - from = omega arith in
-      paste-zero old from (replicate (to - from) place) ∙ ap (paste old from (replicate (to - from) place)) none
-
-  module _ (now : List ℕ) (j : ℕ) (here : Placed now j) (low : from ≤ j) where
-    pub placed-long : j ≤ to → length now ≡ length old
-    placed-long h = ap length here ∙ length-paste old from (replicate (to - from) place) (j - from) (omega arith) (omega (arith, length-replicate (to - from) place))
-
-    pub placed_more : j < to → Placed (set now j place) (j + 1)
-    placed_more h =
-        let at : j ≡ from + (j - from) = omega arith in
-        let next : suc (j - from) ≡ j + 1 - from = omega arith in
-        let value : place ≡ get_or (replicate (to - from) place) (j - from) place = sym (get_or-replicate (to - from) (j - from) place place (omega arith)) in
-        ap (λ (l : List ℕ). set l j place) here
-        ∙ ap₂ (λ (k x : ℕ). set (paste old from (replicate (to - from) place) (j - from)) k x) at value
-        ∙ paste-suc old from (replicate (to - from) place) (j - from) place (omega arith) (omega (arith, length-replicate (to - from) place))
-        ∙ ap (paste old from (replicate (to - from) place)) next
 
 -- ---- all places' levels: those of one place more behind the ones written
 

@@ -12,11 +12,7 @@ fn put_place(level: &mut [u32], place: u32, from: usize, to: usize)
     requires { (from ≤ to) × (to ≤ length level.old) }
     ensures { level.new ≡ paste level.old from (replicate (to - from) place) (to - from) }
 {
-    let mut j = from;
-    while j < to {
-        level[j] = place;
-        j += 1;
-    }
+    level[from..to].fill(place);
 }
 
 // The levels of all entries, from where each place starts.
@@ -24,10 +20,8 @@ pub fn put_levels(starts: &[usize; 18], places: usize, level: &mut [u32])
     requires { Places places starts.now (length level.old) }
     ensures { level.new ≡ over (levels_of places starts.now) level.old }
 {
-    let mut i: usize = 0;
-    while i < places {
+    for i in 0..places {
         put_place(level, i as u32, starts[i], starts[i + 1]);
-        i += 1;
     }
 }
 
@@ -63,10 +57,8 @@ pub fn put_marks(codes: &[u32; 242], n: usize, out: &mut [u8])
     requires { (n ≤ 241) × (n ≤ length codes.now) × (n ≤ length out.old) }
     ensures { out.new ≡ over (map mark_of (take n codes.now)) out.old }
 {
-    let mut i: usize = 0;
-    while i < n {
+    for i in 0..n {
         out[i] = mark_of(codes[i]);
-        i += 1;
     }
 }
 
@@ -74,9 +66,7 @@ pub fn put_costs(codes: &[u32; 242], n: usize, out: &mut [u32])
     requires { (n ≤ 241) × (n ≤ length codes.now) × (n ≤ length out.old) }
     ensures { out.new ≡ over (map cost_of (take n codes.now)) out.old }
 {
-    let mut i: usize = 0;
-    while i < n {
+    for i in 0..n {
         out[i] = cost_of(codes[i]);
-        i += 1;
     }
 }
