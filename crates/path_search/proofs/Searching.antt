@@ -55,7 +55,7 @@ use Rattle.path_search.specs.Searched.{ResultFor}
 pub worked-for
     : (lists : Lists) (T : WorkedTree) (examined : ℕ)
     → SoundLayout (layout_in T) → ((i : ℕ) → get_or T.profile.now i 0 < 256) → Ready (layout_in T) T.profile.now lists T.query
-    → WorkedOut (layout_in T) T.profile.now (search_for (layout_in T) T.profile.now lists T.query) T.addresses.now T.reaches.now T.starts.now T.firsts.now T.lasts.now examined
+    → WorkedOut (layout_in T) T.profile.now (search_for (layout_in T) T.profile.now lists T.query) T.levels.now.addresses T.reaches.now T.levels.now.starts T.levels.now.firsts T.levels.now.lasts examined
     → Worked (search_for (layout_in T) T.profile.now lists T.query) T
 worked-for lists T examined sound bytes ready out =
     record {

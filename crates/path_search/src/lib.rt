@@ -20,6 +20,7 @@ use path_step::{Heads, WorkedTree};
 use profile_records::layout::Layout;
 use request::Query;
 use std::cmp::Ordering;
+use tree_levels::Levels;
 use tree_rounds::{admissible, settle};
 
 // How a given list starts against the source: before it (or not at all), with it, or behind it.
@@ -60,23 +61,9 @@ pub fn search(
     requires given_len { 1 ≤ length given.now → length given.now ≡ suc q.count }
     ensures { ResultFor (layout_of layout) s.now (lists_of include.now exclude.now) q given.now result }
 {
-    let mut addresses = [0u32; 242];
+    let mut levels = Levels::empty();
     let mut reaches = [0u32; 242];
-    let mut starts = [0usize; 18];
-    let mut firsts = [0usize; 16];
-    let mut lasts = [0usize; 16];
-    let settled = settle(
-        s,
-        layout,
-        include,
-        exclude,
-        q,
-        &mut addresses,
-        &mut reaches,
-        &mut starts,
-        &mut firsts,
-        &mut lasts,
-    );
+    let settled = settle(s, layout, include, exclude, q, &mut levels, &mut reaches);
     let here = reaches[0];
     let query = settled.query;
     let round = query.round;
@@ -87,11 +74,8 @@ pub fn search(
         profile: s,
         layout,
         query,
-        addresses: &addresses,
+        levels: &levels,
         reaches: &reaches,
-        starts: &starts,
-        firsts: &firsts,
-        lasts: &lasts,
     };
     let mut path = [0u32; 17];
     if !above(&tree, here, given, &mut path) {

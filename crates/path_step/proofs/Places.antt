@@ -62,19 +62,19 @@ module _
     q = T.query
 
     abbrev addresses : List ℕ
-    addresses = T.addresses.now
+    addresses = T.levels.now.addresses
 
     abbrev codes : List ℕ
     codes = T.reaches.now
 
     abbrev starts : List ℕ
-    starts = T.starts.now
+    starts = T.levels.now.starts
 
     abbrev firsts : List ℕ
-    firsts = T.firsts.now
+    firsts = T.levels.now.firsts
 
     abbrev lasts : List ℕ
-    lasts = T.lasts.now
+    lasts = T.levels.now.lasts
 
     long : length S.sequence ≡ q.count
     long = ap length w.sequence-is ∙ stops-long w.include q

@@ -27,7 +27,7 @@ wanted_hops which hs = keep (λ (h : Hop). is_wanted which h.head.0) hs
 
 -- the nodes of the next place, the numbers beside them, and the one beside an address
 abbrev pub next_nodes : Judge → List ℕ
-next_nodes by = slice by.from by.to by.addresses.now
+next_nodes by = slice by.from by.to by.levels.now.addresses
 
 abbrev pub next_codes : Judge → List ℕ
 next_codes by = slice by.from by.to by.reaches.now
@@ -39,7 +39,7 @@ left_at by v = beside (next_nodes by) (next_codes by) v
 pub record Fit (by : Judge) : Type 0 where
   pub bandwidth-right : in_range by.asked ≡ true
   pub reached : by.here < unreachable
-  pub next_place : NextPlace by.addresses.now by.reaches.now by.from by.to
+  pub next_place : NextPlace by.levels.now.addresses by.reaches.now by.from by.to
 
 -- a hop record that leaves the entry is taken: its bandwidth is enough, its head is wanted, and it lies on a shortest way, by the numbers of the next place
 abbrev pub is_taken : Judge → Hop → Bool

@@ -24,7 +24,7 @@ pub record Worked (S : Search) (T : WorkedTree) : Type 0 where
   pub most : T.query.count ≤ 16
   pub stops-long : length T.query.stops ≡ 16
   pub examined : ℕ
-  pub out : WorkedOut (layout_in T) T.profile.now S T.addresses.now T.reaches.now T.starts.now T.firsts.now T.lasts.now examined
+  pub out : WorkedOut (layout_in T) T.profile.now S T.levels.now.addresses T.reaches.now T.levels.now.starts T.levels.now.firsts T.levels.now.lasts examined
 
 -- an address at place i reaches the destination, and this is its number
 pub record Stands (S : Search) (i a here : ℕ) : Type 0 where

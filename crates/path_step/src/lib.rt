@@ -17,6 +17,7 @@ use profile_hop_range::{HopRange, tail_range};
 use profile_records::hop::accepted_hop;
 use profile_records::layout::Layout;
 use request::Query;
+use tree_levels::Levels;
 use tree_reaches::{UNREACHABLE, reach_of};
 use tree_vspt::next_domain;
 
@@ -26,11 +27,8 @@ pub struct WorkedTree<'a> {
     pub profile: &'a [u8],
     pub layout: Layout,
     pub query: Query,
-    pub addresses: &'a [u32; 242],
+    pub levels: &'a Levels,
     pub reaches: &'a [u32; 242],
-    pub starts: &'a [usize; 18],
-    pub firsts: &'a [usize; 16],
-    pub lasts: &'a [usize; 16],
 }
 
 // Which heads are wanted.
@@ -54,8 +52,8 @@ struct Judge<'a> {
     asked: f32,
     here: u32,
     which: Heads,
-    addresses: &'a [u32],
-    reaches: &'a [u32],
+    levels: &'a Levels,
+    reaches: &'a [u32; 242],
     from: usize,
     to: usize,
 }
@@ -94,7 +92,9 @@ fn tried(h: Hop, by: Judge<'_>) -> Option<Onward>
     if !(by.asked <= h.bandwidth) {
         return None;
     }
-    let reach = reach_of(by.addresses, by.reaches, by.from, by.to, head);
+    let addresses = &by.levels.addresses;
+    let reaches = by.reaches;
+    let reach = reach_of(addresses, reaches, by.from, by.to, head);
     if !on_shortest(h, by.here, reach) {
         return None;
     }
@@ -129,23 +129,23 @@ pub fn next_hop(
     ensures { (S : Search) → Worked S tree.now → Stands S i node.0 here → OnwardIs S i node.0 which result }
 {
     let profile = tree.profile;
-    let addresses = tree.addresses;
+    let levels = tree.levels;
     let reaches = tree.reaches;
     let from = tree.query.stops[i].domain;
     let to = next_domain(&tree.query.stops, tree.query.count, i);
     let pair = HopRange {
-        first: tree.firsts[i],
-        last: tree.lasts[i],
+        first: tree.levels.firsts[i],
+        last: tree.levels.lasts[i],
     };
     let range = tail_range(profile, tree.layout, pair, from, to, node);
     let by = Judge {
         asked: tree.query.limits.bandwidth,
         here,
         which,
-        addresses,
+        levels,
         reaches,
-        from: tree.starts[i + 1],
-        to: tree.starts[i + 2],
+        from: tree.levels.starts[i + 1],
+        to: tree.levels.starts[i + 2],
     };
     scan(profile, tree.layout, range, by)
 }

@@ -11,6 +11,7 @@ use request::Asked;
 use tree_entries::{TreeTable, fill};
 use tree_fields::put::put_levels;
 use tree_fields::solve;
+use tree_levels::Levels;
 
 // A tree by value: what is told of it, and its entries.
 #[derive(Clone, Copy)]
@@ -32,9 +33,8 @@ pub fn build(
 ) -> Result<TableResult, Refusal>
     ensures { TableResultIs (build_tree (request_of profile.now ingress.0 source.0 destination.0 include.now exclude.now limits) room) room result }
 {
-    let mut addresses = [0u32; 242];
+    let mut levels = Levels::empty();
     let mut reaches = [0u32; 242];
-    let mut starts = [0usize; 18];
     let asked = Asked {
         ingress,
         source,
@@ -47,17 +47,16 @@ pub fn build(
         include,
         exclude,
         room,
-        &mut addresses,
+        &mut levels,
         &mut reaches,
-        &mut starts,
     )?;
     let mut level = [0u32; 241];
-    put_levels(&starts, solved.places, &mut level);
+    put_levels(&levels.starts, solved.places, &mut level);
     Ok(TableResult {
         built: solved.built,
         table: TreeTable {
             level,
-            addresses,
+            addresses: levels.addresses,
             reaches,
         },
     })

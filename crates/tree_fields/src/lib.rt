@@ -7,6 +7,7 @@ ghost use Rattle.model.specs.Calls.{build_tree};
 ghost use Rattle.laws.specs.Lists.{lists_of};
 ghost use Rattle.request.specs.CheckedRequest.{request_for};
 ghost use Rattle.request.specs.Query.{Ready};
+ghost use Rattle.tree_levels.specs.Laid.{RoomIn};
 ghost use Rattle.buffers.specs.Capacity.{least4};
 ghost use Rattle.tree_fields.specs.TreeResult.{told_by, tree_for, TreeResultIs, TreeIn};
 
@@ -16,6 +17,7 @@ use model::{BuiltTree, Reason, Refusal, Round};
 use profile_records::layout::layout_in;
 use refusal::refuse_if;
 use request::{Asked, Query, check_request};
+use tree_levels::Levels;
 use tree_rounds::settle;
 
 pub mod put;
@@ -56,32 +58,18 @@ fn solve_query(
     exclude: &[u8],
     q: Query,
     room: usize,
-    addresses: &mut [u32; 242],
+    levels: &mut Levels,
     reaches: &mut [u32; 242],
-    starts: &mut [usize; 18],
 ) -> Result<TreeResult, Refusal>
     requires ready { Ready (layout_in profile.now) profile.now (lists_of include.now exclude.now) q }
-    requires addresses_len { (length addresses.old ≡ 242) × (length reaches.old ≡ 242) × (length starts.old ≡ 18) }
-    ensures { TreeResultIs (tree_for profile.now (lists_of include.now exclude.now) q room) room addresses.new reaches.new starts.new result }
+    requires addresses_len { RoomIn levels.old × (length reaches.old ≡ 242) }
+    ensures { TreeResultIs (tree_for profile.now (lists_of include.now exclude.now) q room) room levels.new.addresses reaches.new levels.new.starts result }
 {
-    let mut firsts = [0usize; 16];
-    let mut lasts = [0usize; 16];
     let layout = layout_in(profile);
-    let settled = settle(
-        profile,
-        layout,
-        include,
-        exclude,
-        q,
-        addresses,
-        reaches,
-        starts,
-        &mut firsts,
-        &mut lasts,
-    );
+    let settled = settle(profile, layout, include, exclude, q, levels, reaches);
     let places = settled.query.count;
     let round = settled.query.round;
-    told(starts[places], places, settled.tally, round, room)
+    told(levels.starts[places], places, settled.tally, round, room)
 }
 
 // The tree of a request in numbers: every check before 34, the tree, and 34.
@@ -91,17 +79,14 @@ pub fn solve(
     include: &[u8],
     exclude: &[u8],
     room: usize,
-    addresses: &mut [u32; 242],
+    levels: &mut Levels,
     reaches: &mut [u32; 242],
-    starts: &mut [usize; 18],
 ) -> Result<TreeResult, Refusal>
-    requires { (length addresses.old ≡ 242) × (length reaches.old ≡ 242) × (length starts.old ≡ 18) }
-    ensures { TreeResultIs (build_tree (request_for profile.now asked include.now exclude.now) room) room addresses.new reaches.new starts.new result }
+    requires { RoomIn levels.old × (length reaches.old ≡ 242) }
+    ensures { TreeResultIs (build_tree (request_for profile.now asked include.now exclude.now) room) room levels.new.addresses reaches.new levels.new.starts result }
 {
     let q = check_request(profile, asked, include, exclude)?;
-    solve_query(
-        profile, include, exclude, q, room, addresses, reaches, starts,
-    )
+    solve_query(profile, include, exclude, q, room, levels, reaches)
 }
 
 // The tree's fields in four lent buffers. On a refusal they keep what they held.
@@ -117,9 +102,8 @@ pub fn tree_numbers(
 ) -> Result<BuiltTree, Refusal>
     ensures { TreeIn (build_tree (request_for profile.now asked include.now exclude.now) (least4 level.old address.old reachable.old cost.old)) level.old address.old reachable.old cost.old result level.new address.new reachable.new cost.new }
 {
-    let mut addresses = [0u32; 242];
+    let mut levels = Levels::empty();
     let mut reaches = [0u32; 242];
-    let mut starts = [0usize; 18];
     let room = lesser(
         lesser(level.len(), address.len()),
         lesser(reachable.len(), cost.len()),
@@ -130,13 +114,12 @@ pub fn tree_numbers(
         include,
         exclude,
         room,
-        &mut addresses,
+        &mut levels,
         &mut reaches,
-        &mut starts,
     )?;
     let n = solved.built.entries as usize;
-    put_levels(&starts, solved.places, level);
-    put_addresses(&addresses, n, address);
+    put_levels(&levels.starts, solved.places, level);
+    put_addresses(&levels.addresses, n, address);
     put_marks(&reaches, n, reachable);
     put_costs(&reaches, n, cost);
     Ok(solved.built)

@@ -1,3 +1,4 @@
 -- Names for the contracts of this crate.
 pub mod Entries
+pub mod Laid
 pub mod Levels

@@ -4,7 +4,8 @@
 ghost use Rattle.std.specs.Prelude.{◌≡◌, ◌+◌, ◌-◌, ◌≤◌, ◌<◌, length, set};
 ghost use Rattle.model.specs.Request.{Search};
 ghost use Rattle.profile_records.specs.Layout.{layout_of, RightProfile};
-ghost use Rattle.tree_levels.specs.Levels.{Several, Covers, Room, Noted, LaidOut};
+ghost use Rattle.tree_levels.specs.Levels.{Several, Covers, Noted};
+ghost use Rattle.tree_levels.specs.Laid.{RoomIn, LaidOutIn};
 
 use crate::heads::collect;
 use model::{DomainIndex, NamedStop, NodeAddress};
@@ -13,6 +14,29 @@ use profile_records::layout::Layout;
 
 pub mod entries;
 pub mod heads;
+
+// The places of a tree and its legs: the addresses of all places, one place after the other, where each place starts, and each leg's hop records, from the first up to the last.
+#[derive(Clone, Copy)]
+pub struct Levels {
+    pub addresses: [u32; 242],
+    pub starts: [usize; 18],
+    pub firsts: [usize; 16],
+    pub lasts: [usize; 16],
+}
+
+impl Levels {
+    // Nothing is laid out yet.
+    pub fn empty() -> Levels
+        ensures { RoomIn result }
+    {
+        Levels {
+            addresses: [0; 242],
+            starts: [0; 18],
+            firsts: [0; 16],
+            lasts: [0; 16],
+        }
+    }
+}
 
 // The hop records of leg i, from one domain to another.
 fn note_leg(
@@ -65,18 +89,15 @@ pub fn lay_out(
     count: usize,
     source: NodeAddress,
     destination: NodeAddress,
-    addresses: &mut [u32; 242],
-    starts: &mut [usize; 18],
-    firsts: &mut [usize; 16],
-    lasts: &mut [usize; 16],
+    levels: &mut Levels,
 ) -> usize
     requires right_profile { RightProfile (layout_of layout) s.now }
-    requires several { Several stops.now count × Room addresses.old starts.old firsts.old lasts.old }
-    ensures { (S : Search) → Covers S (layout_of layout) s.now stops.now count source.0 destination.0 → LaidOut S (layout_of layout) s.now addresses.new starts.new firsts.new lasts.new result }
+    requires several { Several stops.now count × RoomIn levels.old }
+    ensures { (S : Search) → Covers S (layout_of layout) s.now stops.now count source.0 destination.0 → LaidOutIn S (layout_of layout) s.now levels.new result }
 {
-    addresses[0] = source.0;
-    starts[0] = 0;
-    starts[1] = 1;
+    levels.addresses[0] = source.0;
+    levels.starts[0] = 0;
+    levels.starts[1] = 1;
     let mut end: usize = 1;
     let mut examined: usize = 0;
     let last = count - 1;
@@ -87,12 +108,12 @@ pub fn lay_out(
             stops[i].domain,
             stops[i + 1].domain,
             i,
-            firsts,
-            lasts,
+            &mut levels.firsts,
+            &mut levels.lasts,
         );
         examined = tallied(examined, leg);
-        end = collect(s, layout, leg.first, leg.last, addresses, end);
-        starts[i + 2] = end;
+        end = collect(s, layout, leg.first, leg.last, &mut levels.addresses, end);
+        levels.starts[i + 2] = end;
     }
     let leg = note_leg(
         s,
@@ -100,10 +121,16 @@ pub fn lay_out(
         stops[last].domain,
         stops[last].domain,
         last,
-        firsts,
-        lasts,
+        &mut levels.firsts,
+        &mut levels.lasts,
     );
     examined = tallied(examined, leg);
-    put_destination(destination, count, end, addresses, starts);
+    put_destination(
+        destination,
+        count,
+        end,
+        &mut levels.addresses,
+        &mut levels.starts,
+    );
     examined
 }

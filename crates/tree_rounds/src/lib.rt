@@ -12,7 +12,7 @@ ghost use Rattle.laws.specs.Exrs.{Stretch};
 ghost use Rattle.list_exclusion.specs.Place.{all_there};
 ghost use Rattle.laws.specs.Lists.{lists_of};
 ghost use Rattle.profile_records.specs.Layout.{layout_of, SoundLayout};
-ghost use Rattle.tree_levels.specs.Levels.{Room};
+ghost use Rattle.tree_levels.specs.Laid.{RoomIn};
 ghost use Rattle.request.specs.Query.{last_named, Ready};
 ghost use Rattle.tree_rounds.specs.Kept.{kept_by};
 ghost use Rattle.tree_rounds.specs.ChosenRound.{ChosenRoundIs};
@@ -22,7 +22,7 @@ use list_exclusion::place::some_desired_there;
 use model::{Limits, Round};
 use profile_records::layout::Layout;
 use request::{Query, in_round};
-use tree_levels::lay_out;
+use tree_levels::{Levels, lay_out};
 use tree_reaches::UNREACHABLE;
 use tree_vspt::{LaidTree, fill_tree};
 
@@ -60,15 +60,12 @@ pub fn settle(
     include: &[u8],
     exclude: &[u8],
     q: Query,
-    addresses: &mut [u32; 242],
+    levels: &mut Levels,
     reaches: &mut [u32; 242],
-    starts: &mut [usize; 18],
-    firsts: &mut [usize; 16],
-    lasts: &mut [usize; 16],
 ) -> ChosenRound
     requires sound_layout { SoundLayout (layout_of layout) × Ready (layout_of layout) s.now (lists_of include.now exclude.now) q }
-    requires room { Room addresses.old starts.old firsts.old lasts.old × (length reaches.old ≡ 242) }
-    ensures { ChosenRoundIs (layout_of layout) s.now (lists_of include.now exclude.now) q addresses.new reaches.new starts.new firsts.new lasts.new result }
+    requires room { RoomIn levels.old × (length reaches.old ≡ 242) }
+    ensures { ChosenRoundIs (layout_of layout) s.now (lists_of include.now exclude.now) q levels.new.addresses reaches.new levels.new.starts levels.new.firsts levels.new.lasts result }
 {
     let examined = lay_out(
         s,
@@ -77,10 +74,7 @@ pub fn settle(
         q.count,
         q.source,
         q.destination,
-        addresses,
-        starts,
-        firsts,
-        lasts,
+        levels,
     );
     let first = in_round(q, Round::First);
     let laid = LaidTree {
@@ -89,10 +83,7 @@ pub fn settle(
         include,
         exclude,
         query: first,
-        addresses: &*addresses,
-        starts: &*starts,
-        firsts: &*firsts,
-        lasts: &*lasts,
+        levels: &*levels,
     };
     fill_tree(&laid, reaches);
     if !needs_second(include, exclude, q, reaches[0]) {

@@ -18,4 +18,4 @@ ReadyIn T = Ready (layout_of T.layout) T.profile.now (lists_in T) T.query
 
 -- its places and legs are laid out
 abbrev pub LaidIn : LaidTree → Type 0
-LaidIn T = LaidOutFor (layout_of T.layout) T.profile.now (lists_in T) T.query T.addresses.now T.starts.now T.firsts.now T.lasts.now
+LaidIn T = LaidOutFor (layout_of T.layout) T.profile.now (lists_in T) T.query T.levels.now.addresses T.levels.now.starts T.levels.now.firsts T.levels.now.lasts

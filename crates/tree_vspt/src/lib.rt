@@ -22,6 +22,7 @@ use profile_hop_range::HopRange;
 use profile_records::domain::domain_at;
 use profile_records::layout::Layout;
 use request::Query;
+use tree_levels::Levels;
 use tree_reaches::UNREACHABLE;
 use tree_step::{Leg, Step, fill_level};
 
@@ -33,10 +34,7 @@ pub struct LaidTree<'a> {
     pub include: &'a [u8],
     pub exclude: &'a [u8],
     pub query: Query,
-    pub addresses: &'a [u32; 242],
-    pub starts: &'a [usize; 18],
-    pub firsts: &'a [usize; 16],
-    pub lasts: &'a [usize; 16],
+    pub levels: &'a Levels,
 }
 
 // Behind the last domain: the destination reaches itself at no cost, unless it is excluded in the round.
@@ -76,7 +74,7 @@ fn stretch_start(stops: &[NamedStop; 16], i: usize) -> usize
 // The leg from place i of the sequence. Whether its domain is excluded in the round, and whether it has EXRS at all, is asked here, once for all its entries.
 fn leg_at(laid: &LaidTree<'_>, i: usize) -> Leg
     requires { ReadyIn laid.now × (i < laid.now.query.count) }
-    ensures { (addresses : List ℕ) (tally : ℕ) → LaidOut (search_in laid.now) (layout_of laid.now.layout) laid.now.profile.now addresses laid.now.starts.now laid.now.firsts.now laid.now.lasts.now tally → LegFor (layout_of laid.now.layout) laid.now.profile.now (search_in laid.now) (lists_in laid.now) i result }
+    ensures { (addresses : List ℕ) (tally : ℕ) → LaidOut (search_in laid.now) (layout_of laid.now.layout) laid.now.profile.now addresses laid.now.levels.now.starts laid.now.levels.now.firsts laid.now.levels.now.lasts tally → LegFor (layout_of laid.now.layout) laid.now.profile.now (search_in laid.now) (lists_in laid.now) i result }
 {
     let stops = &laid.query.stops;
     let stop = stops[i];
@@ -89,17 +87,17 @@ fn leg_at(laid: &LaidTree<'_>, i: usize) -> Leg
         from: stop.domain,
         to: next_domain(stops, laid.query.count, i),
         hops: HopRange {
-            first: laid.firsts[i],
-            last: laid.lasts[i],
+            first: laid.levels.firsts[i],
+            last: laid.levels.lasts[i],
         },
         round,
         excluded,
         pin: stop.pin,
         exrs,
         named,
-        start: laid.starts[i],
-        next: laid.starts[i + 1],
-        end: laid.starts[i + 2],
+        start: laid.levels.starts[i],
+        next: laid.levels.starts[i + 1],
+        end: laid.levels.starts[i + 2],
     }
 }
 
@@ -111,7 +109,7 @@ fn fill_place(laid: &LaidTree<'_>, i: usize, reaches: &mut [u32])
     ensures { reaches.new ≡ filled_at (search_in laid.now) i reaches.old }
 {
     let leg = leg_at(laid, i);
-    let addresses = laid.addresses;
+    let addresses = &laid.levels.addresses;
     let step = Step {
         profile: laid.profile,
         layout: laid.layout,
@@ -131,7 +129,7 @@ fn fill_from(laid: &LaidTree<'_>, i: usize, left: usize, reaches: &mut [u32])
     ensures { reaches.new ≡ filled_from (search_in laid.now) i (suc left) reaches.old }
 {
     if left == 0 {
-        let at = laid.starts[i];
+        let at = laid.levels.starts[i];
         reaches[at] = arrival(laid.exclude, laid.query.round, laid.query.destination);
         return;
     }

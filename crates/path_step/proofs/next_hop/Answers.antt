@@ -24,7 +24,7 @@ tail_range-range-requires c =
     let ways = c.requires.1 in record {
       right_profile = ways.worked.right;
       pair_range = subst
-          (λ (d : DomainIndex). PairRange (layout_in T) T.profile.now (query_domain T.query a.i) d.0 (get_or T.firsts.now a.i 0) (get_or T.lasts.now a.i 0))
+          (λ (d : DomainIndex). PairRange (layout_in T) T.profile.now (query_domain T.query a.i) d.0 (get_or T.levels.now.firsts a.i 0) (get_or T.levels.now.lasts a.i 0))
           (sym c.next_domain-to.ensures)
           (leg-range ways.search T ways.worked a.i c.requires.0);
     }
@@ -40,7 +40,7 @@ scan-requires c =
       fit = record {
         bandwidth-right = ways.worked.bandwidth-right;
         reached = ways.stands.reached;
-        next_place = subst₂ (λ (m n : ℕ). NextPlace T.addresses.now T.reaches.now (get_or T.starts.now m 0) (get_or T.starts.now n 0))
+        next_place = subst₂ (λ (m n : ℕ). NextPlace T.levels.now.addresses T.reaches.now (get_or T.levels.now.starts m 0) (get_or T.levels.now.starts n 0))
             (sym (add-one a.i)) (sym (add-two a.i))
             (next_place_lem ways.search T ways.worked a.i c.requires.0);
       };
@@ -57,13 +57,13 @@ returns c =
       asked = T.query.limits.bandwidth;
       here = a.here;
       which = a.which;
-      addresses = T.addresses;
+      levels = T.levels;
       reaches = T.reaches;
-      from = get_or T.starts.now (a.i + 1) 0;
-      to = get_or T.starts.now (a.i + 2) 0;
+      from = get_or T.levels.now.starts (a.i + 1) 0;
+      to = get_or T.levels.now.starts (a.i + 2) 0;
     }) refl
-    ((λ j. slice (get_or T.starts.now (add-one a.i j) 0) (get_or T.starts.now (add-two a.i j) 0) T.addresses.now) ∙ next_nodes_lem search T worked a.i c.requires.0)
-    ((λ j. slice (get_or T.starts.now (add-one a.i j) 0) (get_or T.starts.now (add-two a.i j) 0) T.reaches.now) ∙ next_codes_lem search T worked a.i c.requires.0)
+    ((λ j. slice (get_or T.levels.now.starts (add-one a.i j) 0) (get_or T.levels.now.starts (add-two a.i j) 0) T.levels.now.addresses) ∙ next_nodes_lem search T worked a.i c.requires.0)
+    ((λ j. slice (get_or T.levels.now.starts (add-one a.i j) 0) (get_or T.levels.now.starts (add-two a.i j) 0) T.reaches.now) ∙ next_codes_lem search T worked a.i c.requires.0)
     a.node.0 stands range.result.first range.result.last c.scan.result
     (subst (λ (d : DomainIndex). TailRange (layout_in T) T.profile.now (query_domain T.query a.i) d.0 a.node.0 range.result.first range.result.last)
     c.next_domain-to.ensures

@@ -12,10 +12,10 @@ returns c =
     let outcome = build_tree (request_of a.profile.now a.ingress.0 a.source.0 a.destination.0 a.include.now a.exclude.now a.limits) a.room in
     let r = c.in_ok-solved.solved in
     let l = c.solve.new in
-    let is = subst (TreeResultIs outcome a.room l.addresses l.reaches l.starts) c.in_ok-solved.was c.solve.ensures in
+    let is = subst (TreeResultIs outcome a.room l.levels.addresses l.reaches l.levels.starts) c.in_ok-solved.was c.solve.ensures in
     record {
       numbers = is.numbers;
       most = is.most;
       fits = is.fits;
-      entries_are = entries-back outcome.written r.places r.built.entries l.addresses l.reaches l.starts is.held _ _ c.put_levels.ensures;
+      entries_are = entries-back outcome.written r.places r.built.entries l.levels.addresses l.reaches l.levels.starts is.held _ _ c.put_levels.ensures;
     }

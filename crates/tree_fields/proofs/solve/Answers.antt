@@ -26,7 +26,7 @@ returns-in_err-q c =
     let why = c.in_err-q.field-0.0 in
     let req = request (goal.at.returns-in_err-q c).Start in
     let same : c.from_residual.result ≡ Err why = search rules in
-    subst (λ (r : Result TreeResult Refusal). TreeResultIs (build_tree req a.room) a.room a.addresses.now a.reaches.now a.starts.now r) (sym same)
+    subst (λ (r : Result TreeResult Refusal). TreeResultIs (build_tree req a.room) a.room a.levels.now.addresses a.reaches.now a.levels.now.starts r) (sym same)
     (tree-refused req a.room why
     (refused-request a.profile.now a.asked a.include.now a.exclude.now c.check_request.result c.check_request.ensures why c.in_err-q.was))
 
@@ -39,7 +39,7 @@ returns c =
     let q = c.in_ok-q.q in
     let was = c.in_ok-q.was in
     let l = c.solve_query.new in
-    subst (λ (o : Outcome TreeEntry). TreeResultIs o a.room l.addresses l.reaches l.starts c.solve_query.result)
+    subst (λ (o : Outcome TreeEntry). TreeResultIs o a.room l.levels.addresses l.reaches l.levels.starts c.solve_query.result)
     (sym
     (tree-accepted (request (goal.at.returns c).Start) a.room (query_stops a.include.now q) (round_for (layout_in a.profile.now) a.profile.now lists q)
     (search_for (layout_in a.profile.now) a.profile.now lists (in_round (round_for (layout_in a.profile.now) a.profile.now lists q) q))

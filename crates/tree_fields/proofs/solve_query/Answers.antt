@@ -19,20 +19,20 @@ settle-settled-requires c =
     let lists = lists_of a.include.now a.exclude.now in record {
       sound_layout = subst (λ (L : Layout). SoundLayout L × Ready L a.profile.now lists a.q) (sym c.layout_in-layout.ensures)
           (layout-sound a.profile.now, c.requires.ready);
-      room = (record { for_addresses_lem = c.requires.addresses_len.0; for_starts = c.requires.addresses_len.2; for_firsts = refl; for_lasts = refl }, c.requires.addresses_len.1);
+      room = c.requires.addresses_len;
     }
 
 -- what was settled, for the layout that the profile says
 settled
     : (c : After-settle-settled)
     → ChosenRoundIs (layout_in c.args.profile.now) c.args.profile.now (lists_of c.args.include.now c.args.exclude.now) c.args.q
-    c.settle-settled.new.addresses c.settle-settled.new.reaches c.settle-settled.new.starts c.settle-settled.new.firsts c.settle-settled.new.lasts
+    c.settle-settled.new.levels.addresses c.settle-settled.new.reaches c.settle-settled.new.levels.starts c.settle-settled.new.levels.firsts c.settle-settled.new.levels.lasts
     c.settle-settled.result
 settled c =
     let a = c.args in
     let lists = lists_of a.include.now a.exclude.now in
     let l = c.settle-settled.new in
-    subst (λ (L : Layout). ChosenRoundIs L a.profile.now lists a.q l.addresses l.reaches l.starts l.firsts l.lasts c.settle-settled.result)
+    subst (λ (L : Layout). ChosenRoundIs L a.profile.now lists a.q l.levels.addresses l.reaches l.levels.starts l.levels.firsts l.levels.lasts c.settle-settled.result)
     c.layout_in-layout.ensures
     c.settle-settled.ensures
 
@@ -42,21 +42,21 @@ few c =
     let a = c.args in
     let lists = lists_of a.include.now a.exclude.now in
     let l = c.settle-settled.new in
-    places-few a.profile.now lists a.q a.room c.requires.ready l.addresses l.reaches l.starts l.firsts l.lasts c.settle-settled.result (settled c)
+    places-few a.profile.now lists a.q a.room c.requires.ready l.levels.addresses l.reaches l.levels.starts l.levels.firsts l.levels.lasts c.settle-settled.result (settled c)
 
-pub offset_bounds-starts-places : goal.offset_bounds-starts-places
-offset_bounds-starts-places c = omega (arith, few (goal.at.offset_bounds-starts-places c).After-settle-settled)
+pub offset_bounds-levels-places : goal.offset_bounds-levels-places
+offset_bounds-levels-places c = omega (arith, few (goal.at.offset_bounds-levels-places c).After-settle-settled)
 
-pub bounds-starts-places : goal.bounds-starts-places
-bounds-starts-places c = omega (arith, few (goal.at.bounds-starts-places c).After-settle-settled)
+pub bounds-levels-places : goal.bounds-levels-places
+bounds-levels-places c = omega (arith, few (goal.at.bounds-levels-places c).After-settle-settled)
 
 pub told-requires : goal.told-requires
 told-requires c =
     let a = c.args in
     let lists = lists_of a.include.now a.exclude.now in
     let l = c.settle-settled.new in (
-      count_small a.profile.now lists a.q a.room c.requires.ready l.addresses l.reaches l.starts l.firsts l.lasts c.settle-settled.result (settled (goal.at.told-requires c).After-settle-settled),
-      tally-small a.profile.now lists a.q a.room c.requires.ready l.addresses l.reaches l.starts l.firsts l.lasts c.settle-settled.result (settled (goal.at.told-requires c).After-settle-settled),
+      count_small a.profile.now lists a.q a.room c.requires.ready l.levels.addresses l.reaches l.levels.starts l.levels.firsts l.levels.lasts c.settle-settled.result (settled (goal.at.told-requires c).After-settle-settled),
+      tally-small a.profile.now lists a.q a.room c.requires.ready l.levels.addresses l.reaches l.levels.starts l.levels.firsts l.levels.lasts c.settle-settled.result (settled (goal.at.told-requires c).After-settle-settled),
     )
 
 pub returns : goal.returns
@@ -64,5 +64,5 @@ returns c =
     let a = c.args in
     let lists = lists_of a.include.now a.exclude.now in
     let l = c.settle-settled.new in
-    subst (TreeResultIs (tree_for a.profile.now lists a.q a.room) a.room l.addresses l.reaches l.starts) (sym c.told.ensures)
-    (told-right a.profile.now lists a.q a.room c.requires.ready l.addresses l.reaches l.starts l.firsts l.lasts c.settle-settled.result (settled (goal.at.returns c).After-settle-settled))
+    subst (TreeResultIs (tree_for a.profile.now lists a.q a.room) a.room l.levels.addresses l.reaches l.levels.starts) (sym c.told.ensures)
+    (told-right a.profile.now lists a.q a.room c.requires.ready l.levels.addresses l.reaches l.levels.starts l.levels.firsts l.levels.lasts c.settle-settled.result (settled (goal.at.returns c).After-settle-settled))

@@ -21,7 +21,7 @@ returns-in_err-solved c =
     let req = request_for a.profile.now a.asked a.include.now a.exclude.now in
     let same : c.from_residual.result ≡ Err why = search rules in
     let refused =
-    subst (TreeResultIs (build_tree req c.lesser-room.result) c.lesser-room.result l.addresses l.reaches l.starts) c.in_err-solved.was c.solve.ensures in
+    subst (TreeResultIs (build_tree req c.lesser-room.result) c.lesser-room.result l.levels.addresses l.reaches l.levels.starts) c.in_err-solved.was c.solve.ensures in
     subst (λ (r : Result BuiltTree Refusal). TreeIn (build_tree req (least4 a.level.now a.address.now a.reachable.now a.cost.now)) a.level.now a.address.now a.reachable.now a.cost.now r a.level.now a.address.now a.reachable.now a.cost.now) (sym same)
     (subst (λ (o : Outcome TreeEntry). TreeIn o a.level.now a.address.now a.reachable.now a.cost.now (Err why) a.level.now a.address.now a.reachable.now a.cost.now)
     (sym (ap (build_tree req) (sym (c.lesser-room.ensures ∙ ap₂ min c.lesser.ensures c.lesser-2.ensures)) ∙ refused))

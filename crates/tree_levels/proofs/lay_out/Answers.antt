@@ -33,9 +33,9 @@ loop-i-init c =
       },
       λ S covers.
           let long = count-is S (layout_of a.layout) a.s.now a.stops.now a.count _ _ several covers in
-          let source : S.source ≡ a.source.0 = covers.source_is ∙ get_or-set_same a.addresses.now 0 a.source.0 0 (omega (arith, room.for_addresses_lem)) in
+          let source : S.source ≡ a.source.0 = covers.source_is ∙ get_or-set_same a.levels.now.addresses 0 a.source.0 0 (omega (arith, room.for_addresses_lem)) in
           rw (← source)
-          (filled-start S (layout_of a.layout) a.s.now a.addresses.now a.starts.now a.firsts.now a.lasts.now
+          (filled-start S (layout_of a.layout) a.s.now a.levels.now.addresses a.levels.now.starts a.levels.now.firsts a.levels.now.lasts
           (omega (arith, several.some)) (omega (arith, room.for_addresses_lem)) (omega (arith, room.for_starts))),
     )
 
@@ -78,10 +78,10 @@ loop-i-preserved c =
     few-heads L file a.stops.now a.count l.i (l.i + 1) leg.result.first leg.result.last c.requires.right_profile.passed c.requires.several.0 (add-one l.i) (omega arith) range in (
       omega (arith, c.collect-end.ensures.value),
       omega (arith, few-hops (goal.at.loop-i-preserved c).After-shared_slice_known-1, range.within, c.tallied-examined.ensures),
-      room-more L file l.addresses l.starts l.firsts l.lasts l.end _ _ l.i (l.i + 2) _ _ leg.result.first leg.result.last
+      room-more L file l.levels.addresses l.levels.starts l.levels.firsts l.levels.lasts l.end _ _ l.i (l.i + 2) _ _ leg.result.first leg.result.last
           (heads_of L file leg.result.first leg.result.last) _ c.collect-end.result l.invariant.2 leg.ensures (omega arith) c.collect-end.ensures.addresses_after,
       λ S covers.
-          next-filled S L file a.stops.now a.count _ _ c.requires.several.0 covers l.addresses l.starts l.firsts l.lasts l.end l.examined l.i (l.i + 1)
+          next-filled S L file a.stops.now a.count _ _ c.requires.several.0 covers l.levels.addresses l.levels.starts l.levels.firsts l.levels.lasts l.end l.examined l.i (l.i + 1)
           (l.i + 2) _ _ leg.result.first leg.result.last _ c.collect-end.result c.tallied-examined.result (l.invariant.3 S covers) l.invariant.2
           (omega arith) (add-one l.i) (omega arith) (omega arith) leg.ensures c.collect-end.ensures.value c.collect-end.ensures.addresses_after
           c.tallied-examined.ensures,
@@ -111,11 +111,11 @@ returns c =
     let leg = c.note_leg-leg-2 in
     let put = c.put_destination.ensures in
     λ S covers.
-    let from_first : Covers S (layout_of a.layout) a.s.now a.stops.now a.count (get_or (set a.addresses.now 0 a.source.0) 0 0) a.destination.0 =
-    rw (get_or-set_same a.addresses.now 0 a.source.0 0 (omega (arith, c.requires.several.1.for_addresses_lem))) covers in
+    let from_first : Covers S (layout_of a.layout) a.s.now a.stops.now a.count (get_or (set a.levels.now.addresses 0 a.source.0) 0 0) a.destination.0 =
+    rw (get_or-set_same a.levels.now.addresses 0 a.source.0 0 (omega (arith, c.requires.several.1.for_addresses_lem))) covers in
     let last : l.i ≡ a.count - 1 = omega (arith, c.requires.several.0.some) in
-    let filled = subst (λ (n : ℕ). Filled S (layout_of a.layout) a.s.now l.addresses l.starts l.firsts l.lasts l.end l.examined n) last (l.invariant.3 S from_first) in
+    let filled = subst (λ (n : ℕ). Filled S (layout_of a.layout) a.s.now l.levels.addresses l.levels.starts l.levels.firsts l.levels.lasts l.end l.examined n) last (l.invariant.3 S from_first) in
     rw (put.0, put.1)
-    (last-filled S (layout_of a.layout) a.s.now a.stops.now a.count _ _ c.requires.several.0 covers l.addresses l.starts l.firsts l.lasts l.end l.examined
+    (last-filled S (layout_of a.layout) a.s.now a.stops.now a.count _ _ c.requires.several.0 covers l.levels.addresses l.levels.starts l.levels.firsts l.levels.lasts l.end l.examined
     (a.count - 1) (a.count + 1) _ _ leg.result.first leg.result.last c.tallied-examined-2.result filled l.invariant.2 c.requires.right_profile.passed (omega arith) (omega arith) (omega arith)
     leg.ensures c.tallied-examined-2.ensures)

@@ -11,5 +11,5 @@ abbrev pub invariant-loop-i : goal.invariant-loop-i
 invariant-loop-i l =
     (l.end ≤ 1 + 16 * l.i)
     × (l.examined ≤ 65535 * l.i)
-    × Room l.addresses l.starts l.firsts l.lasts
-    × ((S : Search) → Covers S (layout_of l.layout) l.s l.stops l.count (get_or l.initial.addresses 0 0) l.destination.0 → Filled S (layout_of l.layout) l.s l.addresses l.starts l.firsts l.lasts l.end l.examined l.i)
+    × Room l.levels.addresses l.levels.starts l.levels.firsts l.levels.lasts
+    × ((S : Search) → Covers S (layout_of l.layout) l.s l.stops l.count (get_or l.initial.levels.addresses 0 0) l.destination.0 → Filled S (layout_of l.layout) l.s l.levels.addresses l.levels.starts l.levels.firsts l.levels.lasts l.end l.examined l.i)

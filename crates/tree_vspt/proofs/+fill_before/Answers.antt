@@ -27,7 +27,7 @@ fill_place-requires-clause-holds t c =
     let lists = lists_of a.include.now a.exclude.now in
     let pre = c.requires in
     let some : suc (c.args.n - 1) ≡ c.args.n = omega arith in
-    stands_next (layout_of a.layout) a.profile.now lists a.query pre.sound_layout.0.cheap pre.sound_layout.1 a.addresses.now a.starts.now a.firsts.now a.lasts.now pre.laid_out_for.0
+    stands_next (layout_of a.layout) a.profile.now lists a.query pre.sound_layout.0.cheap pre.sound_layout.1 a.levels.now.addresses a.levels.now.starts a.levels.now.firsts a.levels.now.lasts pre.laid_out_for.0
     c.args.n (c.args.n - 1) some pre.sound_layout.2 c.args.reaches.now pre.laid_out_for.1 pre.holds_from
 
 pub fill_before-requires : goal.fill_before-requires
@@ -43,11 +43,11 @@ fill_before-requires t c =
         (
           (
             pre.laid_out_for.0,
-            placed-long (layout_of a.layout) a.profile.now lists a.query pre.sound_layout.0.cheap pre.sound_layout.1 a.addresses.now a.starts.now a.firsts.now a.lasts.now pre.laid_out_for.0
+            placed-long (layout_of a.layout) a.profile.now lists a.query pre.sound_layout.0.cheap pre.sound_layout.1 a.levels.now.addresses a.levels.now.starts a.levels.now.firsts a.levels.now.lasts pre.laid_out_for.0
                 (c.args.n - 1) (omega (arith, pre.sound_layout.2)) c.args.reaches.now _ pre.laid_out_for.1 w
                 ∙ pre.laid_out_for.1,
           ),
-          stands_more (layout_of a.layout) a.profile.now lists a.query pre.sound_layout.0.cheap pre.sound_layout.1 a.addresses.now a.starts.now a.firsts.now a.lasts.now pre.laid_out_for.0
+          stands_more (layout_of a.layout) a.profile.now lists a.query pre.sound_layout.0.cheap pre.sound_layout.1 a.levels.now.addresses a.levels.now.starts a.levels.now.firsts a.levels.now.lasts pre.laid_out_for.0
               c.args.n (c.args.n - 1) some pre.sound_layout.2 c.args.reaches.now pre.laid_out_for.1 pre.holds_from _ w,
         ),
       ),
@@ -59,7 +59,7 @@ returns t c =
     let lists = lists_of a.include.now a.exclude.now in
     let pre = c.requires in
     let some : suc (c.args.n - 1) ≡ c.args.n = omega arith in (
-      filled_from_lem (layout_of a.layout) a.profile.now lists a.query pre.sound_layout.0.cheap pre.sound_layout.1 a.addresses.now a.starts.now a.firsts.now a.lasts.now pre.laid_out_for.0
+      filled_from_lem (layout_of a.layout) a.profile.now lists a.query pre.sound_layout.0.cheap pre.sound_layout.1 a.levels.now.addresses a.levels.now.starts a.levels.now.firsts a.levels.now.lasts pre.laid_out_for.0
           c.args.n (c.args.n - 1) some pre.sound_layout.2 c.args.reaches.now pre.laid_out_for.1 pre.holds_from _ _ c.fill_place.ensures c.fill_before.ensures.0,
       c.fill_before.ensures.1,
     )

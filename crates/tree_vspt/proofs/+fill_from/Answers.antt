@@ -13,12 +13,12 @@ use Rattle.tree_vspt.proofs.+fill_from.Goals as goal
 use Rattle.tree_vspt.proofs.+fill_from.Goals.{After-arrival, After-fill_from}
 
 -- the last place's cell lies in the list
-inside : (t : ℕ) (c : After-arrival t) → get_or c.args.laid.now.starts.now c.args.i 0 < 242
+inside : (t : ℕ) (c : After-arrival t) → get_or c.args.laid.now.levels.now.starts c.args.i 0 < 242
 inside t c =
     let a = c.args.laid.now in
     let lists = lists_of a.include.now a.exclude.now in
     let pre = c.requires in
-    end-inside (layout_of a.layout) a.profile.now lists a.query pre.sound_layout.0.cheap pre.sound_layout.1 a.addresses.now a.starts.now a.firsts.now a.lasts.now pre.laid_out_for.0
+    end-inside (layout_of a.layout) a.profile.now lists a.query pre.sound_layout.0.cheap pre.sound_layout.1 a.levels.now.addresses a.levels.now.starts a.levels.now.firsts a.levels.now.lasts pre.laid_out_for.0
     c.args.i (omega (arith, pre.sound_layout.2))
 
 pub offset_bounds-reaches-at : goal.offset_bounds-reaches-at
@@ -34,7 +34,7 @@ returns-then-left-eq0 t c =
     let pre = c.requires in
     let L = layout_of a.layout in
     let none : 0 ≡ c.args.left = omega arith in
-    filled-last L a.profile.now lists a.query pre.sound_layout.0.cheap pre.sound_layout.1 a.addresses.now a.starts.now a.firsts.now a.lasts.now pre.laid_out_for.0
+    filled-last L a.profile.now lists a.query pre.sound_layout.0.cheap pre.sound_layout.1 a.levels.now.addresses a.levels.now.starts a.levels.now.firsts a.levels.now.lasts pre.laid_out_for.0
     c.args.i c.args.reaches.now c.arrival.result (omega (arith, pre.sound_layout.2)) pre.laid_out_for.1 c.arrival.ensures
     ∙ ap (λ (n : ℕ). filled_from (search_for L a.profile.now lists a.query) c.args.i (suc n) c.args.reaches.now) none
 
@@ -57,7 +57,7 @@ fill_place-requires-clause-holds t c =
     let pre = c.requires in
     let count : c.args.i + suc (c.args.left - 1) ≡ a.query.count = omega (arith, pre.sound_layout.2, c.if-left-eq0.false) in
     let w = written t (goal.at.fill_place-requires-clause-holds t c).After-fill_from in
-    next_codes_lem (layout_of a.layout) a.profile.now lists a.query pre.sound_layout.0.cheap pre.sound_layout.1 a.addresses.now a.starts.now a.firsts.now a.lasts.now pre.laid_out_for.0
+    next_codes_lem (layout_of a.layout) a.profile.now lists a.query pre.sound_layout.0.cheap pre.sound_layout.1 a.levels.now.addresses a.levels.now.starts a.levels.now.firsts a.levels.now.lasts pre.laid_out_for.0
     c.args.i (c.args.left - 1) count c.args.reaches.now _ pre.laid_out_for.1 w
 
 pub returns : goal.returns
@@ -68,6 +68,6 @@ returns t c =
     let count : c.args.i + suc (c.args.left - 1) ≡ a.query.count = omega (arith, pre.sound_layout.2, c.if-left-eq0.false) in
     let w = written t (goal.at.returns t c).After-fill_from in
     let left : suc (suc (c.args.left - 1)) ≡ suc c.args.left = omega arith in
-    filled_step (layout_of a.layout) a.profile.now lists a.query pre.sound_layout.0.cheap pre.sound_layout.1 a.addresses.now a.starts.now a.firsts.now a.lasts.now pre.laid_out_for.0
+    filled_step (layout_of a.layout) a.profile.now lists a.query pre.sound_layout.0.cheap pre.sound_layout.1 a.levels.now.addresses a.levels.now.starts a.levels.now.firsts a.levels.now.lasts pre.laid_out_for.0
     c.args.i (c.args.left - 1) count c.args.reaches.now _ pre.laid_out_for.1 w _ c.fill_place.ensures
     ∙ ap (λ (n : ℕ). filled_from (search_for (layout_of a.layout) a.profile.now lists a.query) c.args.i n c.args.reaches.now) left

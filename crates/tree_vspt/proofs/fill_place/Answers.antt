@@ -9,14 +9,14 @@ fill_level-requires c =
     let a = c.args.laid.now in
     let lists = lists_of a.include.now a.exclude.now in
     let leg = c.leg_at-leg in
-    let for = leg.ensures a.addresses.now c.requires.laid_out_for.0.examined c.requires.laid_out_for.0.laid in record {
+    let for = leg.ensures a.levels.now.addresses c.requires.laid_out_for.0.examined c.requires.laid_out_for.0.laid in record {
       right_profile = record { layout = c.requires.sound_layout.0; passed = c.requires.sound_layout.1.profile-right };
       exclude_value = (c.requires.sound_layout.1.exclude-right, c.requires.sound_layout.1.bandwidth-right, for.stretch);
       pair_range = for.range;
       start_le_next = (
-        in_order (layout_of a.layout) a.profile.now lists a.query c.requires.sound_layout.0.cheap c.requires.sound_layout.1 a.addresses.now a.starts.now a.firsts.now a.lasts.now c.requires.laid_out_for.0
+        in_order (layout_of a.layout) a.profile.now lists a.query c.requires.sound_layout.0.cheap c.requires.sound_layout.1 a.levels.now.addresses a.levels.now.starts a.levels.now.firsts a.levels.now.lasts c.requires.laid_out_for.0
             c.args.i c.requires.sound_layout.2 c.args.reaches.now c.requires.laid_out_for.1 c.requires.holds leg.result for.is,
-        next_place (layout_of a.layout) a.profile.now lists a.query c.requires.sound_layout.0.cheap c.requires.sound_layout.1 a.addresses.now a.starts.now a.firsts.now a.lasts.now c.requires.laid_out_for.0
+        next_place (layout_of a.layout) a.profile.now lists a.query c.requires.sound_layout.0.cheap c.requires.sound_layout.1 a.levels.now.addresses a.levels.now.starts a.levels.now.firsts a.levels.now.lasts c.requires.laid_out_for.0
             c.args.i c.requires.sound_layout.2 c.args.reaches.now c.requires.laid_out_for.1 c.requires.holds leg.result for.is,
       );
     }
@@ -26,6 +26,6 @@ returns c =
     let a = c.args.laid.now in
     let lists = lists_of a.include.now a.exclude.now in
     let leg = c.leg_at-leg in
-    let for = leg.ensures a.addresses.now c.requires.laid_out_for.0.examined c.requires.laid_out_for.0.laid in
-    placed (layout_of a.layout) a.profile.now lists a.query c.requires.sound_layout.0.cheap c.requires.sound_layout.1 a.addresses.now a.starts.now a.firsts.now a.lasts.now c.requires.laid_out_for.0
+    let for = leg.ensures a.levels.now.addresses c.requires.laid_out_for.0.examined c.requires.laid_out_for.0.laid in
+    placed (layout_of a.layout) a.profile.now lists a.query c.requires.sound_layout.0.cheap c.requires.sound_layout.1 a.levels.now.addresses a.levels.now.starts a.levels.now.firsts a.levels.now.lasts c.requires.laid_out_for.0
     c.args.i c.requires.sound_layout.2 c.args.reaches.now c.requires.laid_out_for.1 c.requires.holds leg.result for.is _ c.fill_level.ensures

@@ -41,7 +41,7 @@ returns c =
     let two-on : c.args.i + 2 ≡ suc (suc c.args.i) = omega arith in
     λ addresses tally laid.
     leg-for (layout_of a.layout) a.profile.now lists a.query c.requires.0 c.args.i c.requires.1
-    addresses a.starts.now a.firsts.now a.lasts.now tally laid _
+    addresses a.levels.now.starts a.levels.now.firsts a.levels.now.lasts tally laid _
     (record {
       from_made = refl;
       to_made = c.next_domain.ensures;
@@ -57,6 +57,6 @@ returns c =
       first_made = refl;
       last_made = refl;
       start_made = refl;
-      next_made = ap (λ (n : ℕ). get_or a.starts.now n 0) (add-one c.args.i);
-      end_made = ap (λ (n : ℕ). get_or a.starts.now n 0) two-on;
+      next_made = ap (λ (n : ℕ). get_or a.levels.now.starts n 0) (add-one c.args.i);
+      end_made = ap (λ (n : ℕ). get_or a.levels.now.starts n 0) two-on;
     })
