@@ -1,8 +1,6 @@
 // What the calls answer as lines of text on standard output. No contract can say what is written: these functions are proved to be safe and to end, and a program over them is held to its stored output. Each gives the error of a write that failed, and writes nothing after it.
 #![tactic(auto)]
 
-ghost use Rattle.path_answers.specs.Numbers.{Real};
-
 use model::{BuiltTree, NodeAddress, PathAnswer, Refusal, TreeEntry};
 use path_answers::numbers::round_number;
 use std::io;
@@ -48,15 +46,21 @@ pub fn print_path(rt: &impl Print, path: &[u32]) -> io::Result<()> {
     Ok(())
 }
 
+// The bits of a float; those of a NaN, which has none of its own, are the usual ones.
+fn bits_of(float: f32) -> u32 {
+    if float.is_nan() {
+        return 0x7FC00000;
+    }
+    f32::to_bits(float)
+}
+
 // What a call for a path answers, and the path where there is one. Whether there is one.
 pub fn print_answer(
     rt: &impl Print,
     call: &str,
     answer: Result<PathAnswer, Refusal>,
     path: &[u32],
-) -> io::Result<bool>
-    requires { Real answer }
-{
+) -> io::Result<bool> {
     match answer {
         Ok(
             PathAnswer::Found {
@@ -65,7 +69,7 @@ pub fn print_answer(
                 round,
             },
         ) => {
-            let bits = f32::to_bits(float);
+            let bits = bits_of(float);
             let round = round_number(round);
             print!(rt; "{call}:")?;
             print_path(rt, path)?;
