@@ -38,6 +38,7 @@ pub struct Item {
 }
 
 // What a subobject of right form names.
+#[inline(always)]
 fn named_at(list: &[u8], at: usize) -> Named
     requires { Readable list.now at }
     ensures { NamedIs list.now at result }
@@ -71,6 +72,7 @@ fn named_at(list: &[u8], at: usize) -> Named
 }
 
 // Where the subobject after the one at an offset starts. Type 1 has the same length always; to know it without a look makes a long list faster.
+#[inline(always)]
 pub(crate) fn next_at(list: &[u8], at: usize) -> usize
     requires { Readable list.now at }
     ensures { result ≡ at + length_at list.now at }
@@ -82,6 +84,7 @@ pub(crate) fn next_at(list: &[u8], at: usize) -> usize
 }
 
 // The subobject at an offset where the form is right.
+#[inline(always)]
 pub(crate) fn item_at(list: &[u8], at: usize) -> Item
     requires { Readable list.now at }
     ensures { ItemAt list.now at result }

@@ -16,6 +16,7 @@ pub enum SubobjectType {
 }
 
 // The type that a subobject's first byte says beside the top bit, if it is one of those.
+#[inline(always)]
 pub fn type_of(first: u8) -> Option<SubobjectType>
     ensures { TypeIs (first % 128) result }
 {
@@ -31,6 +32,7 @@ pub fn type_of(first: u8) -> Option<SubobjectType>
 }
 
 // The type of the subobject at an offset where the form is right.
+#[inline(always)]
 pub fn type_there(list: &[u8], at: usize) -> SubobjectType
     requires { Readable list.now at }
     ensures { type_at list.now at ≡ number_of result }
@@ -39,6 +41,7 @@ pub fn type_there(list: &[u8], at: usize) -> SubobjectType
 }
 
 // The type is that of an EXRS.
+#[inline(always)]
 pub fn is_exrs(first: u8) -> bool
     ensures { result ≡ eqb (first % 128) 33 }
 {

@@ -14,6 +14,7 @@ pub struct Walk<'a> {
 }
 
 // A walk at a place of a list.
+#[inline(always)]
 pub fn walk_from<'a>(list: &'a [u8], at: usize) -> Walk<'a>
     ensures { (result.list ≡ list.entry) × (result.at ≡ at) }
 {
@@ -21,6 +22,7 @@ pub fn walk_from<'a>(list: &'a [u8], at: usize) -> Walk<'a>
 }
 
 // The subobject at the walk's place, where the form is right.
+#[inline(always)]
 pub fn subobject_here<'a>(w: Walk<'a>) -> Item
     requires { Readable w.list.now w.at }
     ensures { ItemAt w.entry.list.now w.entry.at result }
@@ -29,6 +31,7 @@ pub fn subobject_here<'a>(w: Walk<'a>) -> Item
 }
 
 // The walk past that subobject: the same list, at the place where the next one starts.
+#[inline(always)]
 pub fn moved_past<'a>(w: Walk<'a>) -> Walk<'a>
     requires { Readable w.list.now w.at }
     ensures { (result.list ≡ w.entry.list) × (result.at ≡ w.entry.at + length_at w.entry.list.now w.entry.at) }
@@ -38,6 +41,7 @@ pub fn moved_past<'a>(w: Walk<'a>) -> Walk<'a>
 }
 
 // The subobject at a place of a list, for callers that keep the list and the place themselves.
+#[inline(always)]
 pub fn subobject_at(list: &[u8], at: usize) -> Item
     requires { Readable list.now at }
     ensures { ItemAt list.now at result }
@@ -46,6 +50,7 @@ pub fn subobject_at(list: &[u8], at: usize) -> Item
 }
 
 // Where the subobject after the one at a place starts, for the same callers.
+#[inline(always)]
 pub fn next_after(list: &[u8], at: usize) -> usize
     requires { Readable list.now at }
     ensures { result ≡ at + length_at list.now at }
