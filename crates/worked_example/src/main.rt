@@ -9,7 +9,7 @@ use crate::cases::{
 use crate::lent::lent_tree;
 use model::{DomainIndex, NodeAddress, TreeEntry};
 use path_calls::{first, next};
-use printing::{print_answer, print_entry, print_path, print_refusal, print_tree};
+use printing::{print_addresses, print_entry, print_refused, print_reply, print_tree};
 use std::io;
 
 mod cases;
@@ -41,14 +41,14 @@ fn show_tree(rt: &impl Print, case: Case) -> io::Result<()> {
             }
             Ok(())
         }
-        Err(refusal) => print_refusal(rt, "tree", refusal),
+        Err(refusal) => print_refused(rt, "tree", refusal),
     }
 }
 
 // The first path, into `path`; whether there is one.
 fn show_first(rt: &impl Print, case: Case, path: &mut [u32; 4]) -> io::Result<bool> {
     let answer = first(case.profile, asked(), case.include, case.exclude, path);
-    print_answer(rt, "first", answer, path)
+    print_reply(rt, "first", answer, path)
 }
 
 // The path after a given list, into `path`; whether there is one.
@@ -66,7 +66,7 @@ fn show_next(
         given,
         path,
     );
-    print_answer(rt, "next", answer, path)
+    print_reply(rt, "next", answer, path)
 }
 
 // First, then next until there is no other. A proved loop has to end: this one makes at most eight calls, more than the profile has paths.
@@ -87,7 +87,7 @@ fn show_paths(rt: &impl Print, case: Case) -> io::Result<()> {
 fn show_next_after(rt: &impl Print, case: Case) -> io::Result<()> {
     let mut path = [0u32; 4];
     print!(rt; "after")?;
-    print_path(rt, &A_LONGER_PATH)?;
+    print_addresses(rt, &A_LONGER_PATH)?;
     println!(rt; "")?;
     show_next(rt, case, &A_LONGER_PATH, &mut path)?;
     Ok(())
