@@ -1,15 +1,27 @@
--- Bytes put from a place on: nothing, and one run after the other. From the library's facts on copies (`lib.Seq`'s paste).
-use mathlib.Core.Path.{◌≡◌, refl, sym, ap, ap₂, ◌∙◌}
+-- Bytes put from a place on: nothing, one byte more, and one run after the other. From the library's facts on copies (`lib.Seq`'s paste).
+use mathlib.Core.Path.{◌≡◌, refl, sym, ap, ap₂, subst, ◌∙◌}
 use mathlib.Core.List.{List, [], ◌∷◌, ◌++◌, append_assoc, append-nil}
-use Prim.Native.Nat.{ℕ, zero, suc, ◌+◌, ◌≤◌}
+use Prim.Native.Nat.{ℕ, zero, suc, ◌+◌, ◌≤◌, ◌<◌}
 use native.Mathlib.Nat.{zero-add, add-zero, add_assoc}
+use native.Mathlib.Numerals.{add-one}
 use native.Mathlib.Omega.{arith}
-use lib.ListN.{length, take, drop, replicate, take-append-drop, length-append}
-use lib.Seq.{length-take-le, take_at, drop-drop, drop-append-add, paste}
+use lib.ListN.{length, get_or, take, drop, set, replicate, take-append-drop, length-append}
+use lib.Seq.{length-take-le, take_at, drop-drop, drop-append-add, paste, paste-suc}
 use Rattle.model.specs.Bytes.{bytes_of}
 use Rattle.model.specs.Lists.{over}
 use Rattle.laws.proofs.Numbers.{length-bytes_of}
 use Rattle.buffers.specs.Placed.{placed, Put}
+
+-- ---- one byte more of a run
+
+pub one_more : (old new run : List ℕ) (at j : ℕ) → at + j < length old → j < length run → new ≡ paste old at run j
+    → set new (at + j) (get_or run j 0) ≡ paste old at run (j + 1)
+one_more old new run at j h k e = rw (e, add-one j) (paste-suc old at run j 0 h k)
+
+pub all_put : (old new run : List ℕ) (at j n : ℕ) → j ≡ n → n ≤ length run → new ≡ paste old at run j → Put at (take n run) old new (at + n)
+all_put old new run at j n e h p =
+    let l : length (take n run) ≡ n = length-take-le n run h in
+    record { holds = rw l (subst (λ (k : ℕ). new ≡ paste old at run k) e p); next = rw l refl }
 
 pub take-replicate : (k n x : ℕ) → k ≤ n → take k (replicate n x) ≡ replicate k x
 take-replicate zero n x h = refl

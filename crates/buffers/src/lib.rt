@@ -13,12 +13,14 @@ pub fn lesser(a: usize, b: usize) -> usize
     a.min(b)
 }
 
-// The first `n` of some bytes, into a buffer from a place on; the answer is the place after them.
+// The first `n` of some bytes, into a buffer from a place on; the answer is the place after them. Byte by byte: copied as a slice, the library would need `memmove` from outside.
 pub fn put_bytes(out: &mut [u8], at: usize, bytes: &[u8], n: usize) -> usize
     requires { (at + n ≤ length out.old) × (n ≤ length bytes.now) }
     ensures { Put at (take n bytes.now) out.old out.new result }
 {
-    out[at..at + n].copy_from_slice(&bytes[..n]);
+    for j in 0..n {
+        out[at + j] = bytes[j];
+    }
     at + n
 }
 
