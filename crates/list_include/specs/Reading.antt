@@ -1,6 +1,6 @@
 -- What the code's state of a reading stands for, over the definitions of `model`.
 use Rattle.std.specs.Prelude.{◌≡◌, List, [], ◌∷◌, ◌++◌, ℕ, ◌-◌, ◌≤◌, ◌<◌, length, Option, Some, None, Result, Ok, Err}
-use Rattle.model.specs.Verdict.{Pass}
+use Rattle.model.specs.Verdict.{Verdict, Pass}
 use Rattle.model.specs.declared.NodeAddress.{NodeAddress}
 use Rattle.model.specs.declared.Refusal.{Refusal}
 use Rattle.model.specs.declared.ListKind.TheVariants.{Include}
@@ -105,6 +105,11 @@ read_of read (Err x) = M.refused x
 pub record ReadAs {A : Type 0} (Holds : State → Type 0) (read : State → A) (r : Result State Refusal) (m : M.Reading A) : Type 0 where
   pub means : read_of read r ≡ m
   pub sound : (st : State) → r ≡ Ok st → SoundState st × Holds st
+
+-- what a step leaves behind: its refusal, or the state that it made
+abbrev pub stepped : Verdict → State → Result State Refusal
+stepped (Ok _) st = Ok st
+stepped (Err x) st = Err x
 
 -- a step: refused, or a state that stands for the next one where the reading has come to an offset
 abbrev pub ReadStepIs : List ℕ → ℕ → Result State Refusal → M.Reading M.State → Type 0

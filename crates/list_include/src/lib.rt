@@ -11,49 +11,37 @@ ghost use Rattle.model.specs.Sequence.{read_system, read_one, area_next, start_i
 ghost use Rattle.model.specs.Request.{reading_input};
 ghost use Rattle.laws.specs.Left.{subobjects_left};
 ghost use Rattle.profile_records.specs.Domains.{WholeDomains, ShortAreas};
-ghost use Rattle.list_include.specs.Reading.{subobject_of, state_of, state_waits, SoundState, ItemHere, Standing, StateIs, ReadStepIs, MeaningIs};
+ghost use Rattle.list_include.specs.Reading.{subobject_of, state_of, state_waits, SoundState, ItemHere, Standing, StateIs, stepped, ReadStepIs, MeaningIs};
 
 use crate::named_domains::{of_area, of_system};
 use crate::state::{State, name_found, wait_exrs, wait_for, with_asn};
 use list_subobject::item::{Item, Named};
 use list_subobject::types::SubobjectType;
 use list_subobject::walk::subobject_at;
-use model::{DomainIndex, NamedStop, Refusal};
+use model::{DomainIndex, NamedStop, Refusal, Verdict};
 use wire::u32_at;
 
 pub mod named_domains;
 pub mod state;
 
 // An AS becomes current; unless an area follows at once it names its only domain.
-fn read_system(
-    profile: &[u8],
-    st: State,
-    at: usize,
-    asn: u32,
-    follows: bool,
-) -> Result<State, Refusal>
-    requires { SoundState st × (at ≤ 1024) × WholeDomains profile.now }
-    ensures { (list : List ℕ) → Standing list at st → ReadStepIs list at result (read_system (reading_input profile.now) at (state_of list at st) asn follows) }
+fn read_system(profile: &[u8], st: &mut State, at: usize, asn: u32, follows: bool) -> Verdict
+    requires { SoundState st.old × (at ≤ 1024) × WholeDomains profile.now }
+    ensures { (list : List ℕ) → Standing list at st.old → ReadStepIs list at (stepped result st.new) (read_system (reading_input profile.now) at (state_of list at st.old) asn follows) }
 {
-    let next = with_asn(st, asn);
+    with_asn(st, asn);
     if follows {
-        return Ok(next);
+        return Ok(());
     }
     let found = of_system(profile, asn);
-    name_found(next, at, found)
+    name_found(st, at, found)
 }
 
 // One subobject.
-fn read_item(
-    profile: &[u8],
-    list: &[u8],
-    st: State,
-    item: Item,
-    follows: bool,
-) -> Result<State, Refusal>
-    requires sound_state { SoundState st × (item.offset ≤ 1024) × WholeDomains profile.now × ShortAreas profile.now }
-    requires item_here { ItemHere list.now item × Standing list.now item.offset st }
-    ensures { ReadStepIs list.now item.next result (read_one (reading_input profile.now) (state_of list.now item.offset st) (subobject_of list.now item) follows) }
+fn read_item(profile: &[u8], list: &[u8], st: &mut State, item: Item, follows: bool) -> Verdict
+    requires sound_state { SoundState st.old × (item.offset ≤ 1024) × WholeDomains profile.now × ShortAreas profile.now }
+    requires item_here { ItemHere list.now item × Standing list.now item.offset st.old }
+    ensures { ReadStepIs list.now item.next (stepped result st.new) (read_one (reading_input profile.now) (state_of list.now item.offset st.old) (subobject_of list.now item) follows) }
 {
     let at = item.offset;
     let named = item.named;
@@ -64,7 +52,10 @@ fn read_item(
             let found = of_area(profile, st.asn, list, kind, start, count);
             name_found(st, at, found)
         }
-        Named::Exrs { start: _, count: _ } => Ok(wait_exrs(st, at)),
+        Named::Exrs { start: _, count: _ } => {
+            wait_exrs(st, at);
+            Ok(())
+        }
     }
 }
 
@@ -120,7 +111,7 @@ pub fn read_list(profile: &[u8], ingress: DomainIndex, list: &[u8]) -> Result<St
     while at < list.len() {
         let item = subobject_at(list, at);
         let follows = area_at(list, item.next);
-        st = read_item(profile, list, st, item, follows)?;
+        read_item(profile, list, &mut st, item, follows)?;
         at = item.next;
     }
     finished(st)

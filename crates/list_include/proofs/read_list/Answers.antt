@@ -5,7 +5,7 @@ use native.Mathlib.Omega.{arith}
 use lib.ListN.{length}
 use borrow.Author.Rules.{rules}
 use Rattle.std.specs.Prelude.{Result, Err}
-use Rattle.model.specs.Verdict.{Pass}
+use Rattle.model.specs.Verdict.{Verdict, Pass}
 use Rattle.model.specs.declared.Refusal.{Refusal}
 use Rattle.list_include.specs.declared.state.State.{State}
 use Rattle.model.specs.declared.ListKind.TheVariants.{Include}
@@ -15,7 +15,7 @@ use Rattle.laws.specs.Left.{form_left, subobjects_left}
 use Rattle.laws.proofs.Walk.{form-whole, right_here, right_next}
 use Rattle.model.specs.Subobject.{subobject_verdict, subobject_at, length_at}
 use Rattle.list_subobject.specs.Items.{ItemAt}
-use Rattle.list_include.specs.Reading.{read_of, subobject_of, state_stops, state_of, Placed, Standing, MeaningIs}
+use Rattle.list_include.specs.Reading.{stepped as left, read_of, subobject_of, state_stops, state_of, Placed, Standing, MeaningIs}
 use Rattle.list_subobject.proofs.FormLaws.{readable}
 use Rattle.list_include.proofs.States.{step-refused}
 use Rattle.list_include.proofs.Includes.{read_here, read-passed, read-refused, read-end, read-start}
@@ -40,7 +40,7 @@ item-is c = c.subobject_at-item.ensures
 
 stepped
     : (c : After-read_item)
-    → read_of (state_of c.args.list.now c.subobject_at-item.result.next) c.read_item.result
+    → read_of (state_of c.args.list.now c.subobject_at-item.result.next) (left c.read_item.result c.read_item.new.st)
     ≡ M.read_one (reading_input c.args.profile.now) (state_of c.args.list.now c.loop-at.at c.loop-at.st) (subobject_at c.args.list.now c.loop-at.at)
     (M.area_next (subobjects_left c.args.list.now (c.loop-at.at + length_at c.args.list.now c.loop-at.at)))
 stepped c =
@@ -75,17 +75,17 @@ read_item-requires-clause-item_here c =
       subst (λ (o : ℕ). Standing s o l.st) (sym off) l.invariant.4,
     )
 
-pub returns-in_err-st : goal.returns-in_err-st
-returns-in_err-st c =
+pub returns-in_err-read_item : goal.returns-in_err-read_item
+returns-in_err-read_item c =
     let a = c.args in
     let l = c.loop-at in
-    let x = c.in_err-st.field-0.0 in
+    let x = c.in_err-read_item.field-0.0 in
     let same : c.from_residual.result ≡ Err x = search rules in
     subst (λ (r : Result State Refusal). MeaningIs a.list.now r (M.meaning (reading_input a.profile.now) a.ingress.0 a.list.now)) (sym same)
     (step-refused (Placed a.list.now) (state_stops a.list.now) x _
-    (sym (meant (goal.at.returns-in_err-st c).At-loop-at)
+    (sym (meant (goal.at.returns-in_err-read_item c).At-loop-at)
     ∙ read-refused (reading_input a.profile.now) a.list.now l.at (state_of a.list.now l.at l.st) c.loop-at-test.true l.invariant.2 x
-    (sym (ap (read_of (state_of a.list.now c.subobject_at-item.result.next)) c.in_err-st.was) ∙ stepped (goal.at.returns-in_err-st c).After-read_item)))
+    (sym (ap (λ (v : Verdict). read_of (state_of a.list.now c.subobject_at-item.result.next) (left v c.read_item.new.st)) c.in_err-read_item.was) ∙ stepped (goal.at.returns-in_err-read_item c).After-read_item)))
 
 pub loop-at-preserved : goal.loop-at-preserved
 loop-at-preserved c =
@@ -96,13 +96,13 @@ loop-at-preserved c =
     let R = reading_input a.profile.now in
     let s = a.list.now in
     let next = c.subobject_at-item.result.next in
-    let on : M.good (state_of s next c.in_ok-st.st) ≡ M.read_one R (state_of s l.at l.st) (subobject_at s l.at) (M.area_next (subobjects_left s (l.at + length_at s l.at))) =
-    sym (ap (read_of (state_of s next)) c.in_ok-st.was) ∙ stepped (goal.at.loop-at-preserved c).After-read_item in
-    let kept = c.read_item.ensures.sound c.in_ok-st.st c.in_ok-st.was in (
+    let on : M.good (state_of s next c.read_item.new.st) ≡ M.read_one R (state_of s l.at l.st) (subobject_at s l.at) (M.area_next (subobjects_left s (l.at + length_at s l.at))) =
+    sym (ap (λ (v : Verdict). read_of (state_of s next) (left v c.read_item.new.st)) c.in_ok-read_item.was) ∙ stepped (goal.at.loop-at-preserved c).After-read_item in
+    let kept = c.read_item.ensures.sound c.read_item.new.st (ap (λ (v : Verdict). left v c.read_item.new.st) c.in_ok-read_item.was) in (
       inside,
       kept.0,
       subst (λ (n : ℕ). form_left Include s n ≡ Pass) (sym is.next) (right_next Include s (length s) l.at c.loop-at-test.true l.invariant.2),
-      ap (λ (n : ℕ). M.read_all R (subobjects_left s n) (state_of s next c.in_ok-st.st)) is.next
+      ap (λ (n : ℕ). M.read_all R (subobjects_left s n) (state_of s next c.read_item.new.st)) is.next
           ∙ sym (read-passed R s l.at (state_of s l.at l.st) c.loop-at-test.true l.invariant.2 _ on)
           ∙ l.invariant.3,
       kept.1,

@@ -10,19 +10,19 @@ pub returns-then-follows : goal.returns-then-follows
 returns-then-follows c =
     let a = c.args in
     λ list standing.
-    stepped-on list a.at _ _ _ (c.with_asn-next.ensures.1 list a.at standing)
-    (ap (M.read_system (reading_input a.profile.now) a.at (state_of list a.at a.st) a.asn) c.if-follows.true)
+    stepped-on list a.at _ _ _ (c.with_asn.ensures.1 list a.at standing)
+    (ap (M.read_system (reading_input a.profile.now) a.at (state_of list a.at a.st.now) a.asn) c.if-follows.true)
 
 pub returns : goal.returns
 returns c =
     let a = c.args in
     let R = reading_input a.profile.now in
     λ list standing.
-    let next = M.with_system (state_of list a.at a.st) a.asn in
-    let set = c.with_asn-next.ensures.1 list a.at standing in
-    subst (ReadStepIs list a.at c.name_found.result)
+    let next = M.with_system (state_of list a.at a.st.now) a.asn in
+    let set = c.with_asn.ensures.1 list a.at standing in
+    subst (ReadStepIs list a.at _)
     (ap (λ (x : M.State). name_found a.at x c.of_system-found.result) set.means
     ∙ ap (name_found a.at next) c.of_system-found.ensures
     ∙ sym (named-found a.at next (M.of_system R.domains a.asn))
-    ∙ sym (ap (M.read_system R a.at (state_of list a.at a.st) a.asn) c.if-follows.false))
-    (c.name_found.ensures list set.standing)
+    ∙ sym (ap (M.read_system R a.at (state_of list a.at a.st.now) a.asn) c.if-follows.false))
+    (c.name_found.ensures.means list set.standing)

@@ -5,4 +5,4 @@ use Rattle.list_include.proofs.state.add.Goals as goal
 pub returns : goal.returns
 returns c =
     let a = c.args in
-    added_state a.st a.at a.d c.requires.0 c.requires.1
+    added_state a.st.now a.at a.d c.requires.0 c.requires.1

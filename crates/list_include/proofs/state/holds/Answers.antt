@@ -4,4 +4,4 @@ use Rattle.list_include.proofs.States.{held}
 use Rattle.list_include.proofs.state.holds.Goals as goal
 
 pub returns : goal.returns
-returns c = λ list. c.any_in.ensures ∙ held list c.args.st c.requires c.args.d.0
+returns c = λ list. c.any_in.ensures ∙ held list c.args.st.now c.requires c.args.d.0

@@ -10,6 +10,6 @@ pub returns : goal.returns
 returns c =
     let a = c.args in
     λ list bytes next standing past.
-    subst (λ (s : State). StateIs list next s (M.waits_too a.at (state_of list a.at a.st) (M.exclusions bytes))) (sym c.waits_too.ensures)
-    (waits_more list a.at next a.st (M.exclusions bytes) c.requires.0 standing past a.st.node c.first_left-first.result
-    (standing.pin_is ∙ sym (pin-kept (state_waits list a.at a.st) a.at bytes)) c.first_left-first.ensures)
+    subst (λ (s : State). StateIs list next s (M.waits_too a.at (state_of list a.at a.st.now) (M.exclusions bytes))) (sym c.waits_too.ensures)
+    (waits_more list a.at next a.st.now (M.exclusions bytes) c.requires.0 standing past a.st.now.node c.first_left-first.result
+    (standing.pin_is ∙ sym (pin-kept (state_waits list a.at a.st.now) a.at bytes)) c.first_left-first.ensures)
