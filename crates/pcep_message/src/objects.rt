@@ -139,11 +139,14 @@ pub struct Objects {
     pub xro: Option<u16>,
 }
 
-// The first place met of a class: the one known so far, or where there is none this one.
-fn first_of(known: Option<u16>, at: u16) -> Option<u16>
-    ensures { result ≡ option_or known (Some at) }
+// The first place met of a class: the one known so far, or where there is none this one. Where one is known nothing is stored, as a message may have thousands of
+// objects of a class.
+fn first_of(known: &mut Option<u16>, at: u16)
+    ensures { known.new ≡ option_or known.old (Some at) }
 {
-    known.or(Some(at))
+    if known.is_none() {
+        *known = Some(at);
+    }
 }
 
 // The places met by class, by the objects' names.
@@ -174,7 +177,7 @@ pub fn objects_in(kind: MessageKind, message: &[u8]) -> Result<Objects, Refusal>
         let object = object_at(kind, message, at)?;
         if let Some(class) = object.class {
             let i = wide(class);
-            met[i] = first_of(met[i], at as u16);
+            first_of(&mut met[i], at as u16);
         }
         at = object.next;
     }

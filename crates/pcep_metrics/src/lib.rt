@@ -33,14 +33,13 @@ fn next_metric(message: &[u8], from: usize) -> usize
     at
 }
 
-// The first place met that passes a test: the one known so far, or where there is none this one, if it does.
-fn noted(hit: bool, known: Option<u16>, at: u16) -> Option<u16>
-    ensures { result ≡ noted_by hit known at }
+// The first place met that passes a test: the one known so far, or where there is none this one, if it does. It is stored at most once.
+fn noted(hit: bool, known: &mut Option<u16>, at: u16)
+    ensures { known.new ≡ noted_by hit known.old at }
 {
-    if hit {
-        return known.or(Some(at));
+    if hit && known.is_none() {
+        *known = Some(at);
     }
-    known
 }
 
 // How many METRICs a message has, and where the first with B set and the first out of range start.
@@ -63,8 +62,12 @@ pub fn judge(message: &[u8]) -> MetricScan
     let mut at = next_metric(message, 4);
     while at < message.len() {
         scan.count += 1;
-        scan.bound = noted(message[at + 6] % 2 == 1, scan.bound, at as u16);
-        scan.wrong = noted(0x7F800000 <= u32_at(message, at + 8), scan.wrong, at as u16);
+        noted(message[at + 6] % 2 == 1, &mut scan.bound, at as u16);
+        noted(
+            0x7F800000 <= u32_at(message, at + 8),
+            &mut scan.wrong,
+            at as u16,
+        );
         at = next_metric(message, at + 12);
     }
     scan

@@ -52,7 +52,7 @@ loop-at-smaller c =
 pub loop-at-preserved : goal.loop-at-preserved
 loop-at-preserved c =
     let l = c.loop-at in
-    rw (c.noted-scan.ensures, c.noted-scan-in-loop-at.ensures, c.u32_at.ensures)
+    rw (c.noted.ensures, c.noted-in-loop-at.ensures, c.u32_at.ensures)
     (λ p. judging_goes_on c.args.message.now p l.at l.scan (l.invariant p) c.loop-at-test.true c.next_metric-at-in-loop-at.result c.next_metric-at-in-loop-at.ensures)
 
 pub returns : goal.returns

@@ -45,7 +45,7 @@ loop-at-preserved-in-Some c =
     let o = passed (goal.at.loop-at-preserved-in-Some c).In_ok-object in
     let is = sym o.class-is ∙ c.in-Some.is in
     rw (o.next-is, c.wide-i.ensures.0)
-    (walk_notes a.kind a.message.now l.at l.met l.invariant c.loop-at-test.true o.verdict c.in-Some.class is c.first_of.result (rw c.wide-i.ensures.0 at c.first_of.ensures))
+    (walk_notes a.kind a.message.now l.at l.met l.invariant c.loop-at-test.true o.verdict c.in-Some.class is c.first_of.new.known (rw c.wide-i.ensures.0 at c.first_of.ensures))
 
 pub loop-at-preserved : goal.loop-at-preserved
 loop-at-preserved c =
