@@ -93,7 +93,7 @@ module _ (list : List ℕ) (st : State) where
         ∙ ap {B = List ℕ} (λ (p : Stop). passed i ++ p.exrs) (stop-there i h)
         ∙ ap {B = List ℕ} (λ (n : ℕ). passed i ++ exrs_in list n to) (sym e)
 
-    size_next : length (passed i) + length (exrs_in list from to) ≡ length (passed (i + 1))
+    pub size_next : length (passed i) + length (exrs_in list from to) ≡ length (passed (i + 1))
     size_next = sym (ap length passed_next ∙ length-append (passed i) (exrs_in list from to))
 
     pub size_fits : length (passed i) + length (exrs_in list from to) ≤ length (all_exrs (state_stops list st))

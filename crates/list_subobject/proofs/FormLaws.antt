@@ -27,7 +27,7 @@ module _ {s : List ℕ} {at : ℕ} (r : Readable s at) where
   long_by : (t n : ℕ) → type_at s at ≡ t → length_fits r.kind t (area_length_at s at) (length_at s at) ≡ eqb (length_at s at) n → length_at s at ≡ n
   long_by t n e f = eqb-true (length_at s at) n (sym (ap (λ (u : ℕ). length_fits r.kind u (area_length_at s at) (length_at s at)) e ∙ f) ∙ r.fits)
 
-  room_8 : length_at s at ≡ 8 → at + 8 ≤ length s
+  pub room_8 : length_at s at ≡ 8 → at + 8 ≤ length s
   room_8 l = let i = r.inside in omega arith
 
   pub long_1 : type_at s at ≡ 1 → length_at s at ≡ 8

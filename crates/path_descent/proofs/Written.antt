@@ -8,7 +8,7 @@ use lib.Seq.{paste, length-paste}
 use Rattle.tree_vspt.proofs.Filled.{paste-before, paste_one}
 
 -- all of a list written at a place keeps the length
-written-long : (d xs : List ℕ) (at : ℕ) → at + length xs ≤ length d → length (paste d at xs (length xs)) ≡ length d
+pub written-long : (d xs : List ℕ) (at : ℕ) → at + length xs ≤ length d → length (paste d at xs (length xs)) ≡ length d
 written-long d xs at h = length-paste d at xs (length xs) h (omega arith)
 
 pub set_before

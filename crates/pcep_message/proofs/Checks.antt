@@ -37,7 +37,7 @@ fits_by c l n true e = rw e refl
 fits_by c l n false e = rw e refl
 
 module _ (k : MessageKind) (s : List ℕ) (at : ℕ) where
-  abbrev least : ℕ
+  abbrev pub least : ℕ
   least = least_of k (class_at s at) (type_at s at)
 
   -- fewer than 4 bytes are left
@@ -68,7 +68,7 @@ module _ (k : MessageKind) (s : List ℕ) (at : ℕ) where
     abbrev unknown : Bool
     unknown = is_none r && demanded_at s at
 
-    long : object_verdict k s at ≡ refuse_if size 37 at and_then refuse_if unknown 38 at
+    pub long : object_verdict k s at ≡ refuse_if size 37 at and_then refuse_if unknown 38 at
     unfolding object_verdict
     long = rw (le-ltb (length s) (at + 4) h, size_same, unknown-same, and_comm (demanded_at s at) (is_none r)) refl
 
