@@ -18,7 +18,7 @@ use Rattle.pcep_laws.specs.Table.{least_of, fits_least}
 use Rattle.pcep_laws.proofs.Table.{known_is, own_is}
 use Rattle.pcep_laws.specs.Firsts.{placed}
 use Rattle.pcep_message.specs.Known.{fits, class_if}
-use Rattle.pcep_message.specs.Walked.{size_refused, ObjectPassed}
+use Rattle.pcep_message.specs.Walked.{length_refused, size_refused, ObjectPassed}
 
 same_left : (l at n : ℕ) → at ≤ l → ltb l (at + n) ≡ ltb (l - at) n
 same_left l at n h =
@@ -26,6 +26,12 @@ same_left l at n h =
     (λ (t : ltb (l - at) n ≡ true). let g = ltb-true (l - at) n t in lt-ltb l (at + n) (omega arith) ∙ sym t)
     (λ (f : ltb (l - at) n ≡ false). let g = ltb-false (l - at) n f in le-ltb l (at + n) (omega arith) ∙ sym f)
     (decide (ltb (l - at) n))
+
+-- three tests, and then one
+or_last : (a b c d : Bool) → a || (b || (c || d)) ≡ (a || (b || c)) || d
+or_last true b c d = refl
+or_last false true c d = refl
+or_last false false c d = refl
 
 none_by : (l : ℕ) (none : Bool) → is_none (cond none None (Some l)) ≡ none
 none_by l true = refl
@@ -74,6 +80,16 @@ module _ (k : MessageKind) (s : List ℕ) (at : ℕ) where
 
     pub wrong-size : size ≡ true → object_verdict k s at ≡ refuse_if true 37 at
     wrong-size w = long ∙ rw w refl
+
+    -- by a length alone, then by what the object is
+    size_split : size ≡ length_refused (size_at s at) (length s - at) || not (fits (class_at s at) r (size_at s at))
+    size_split = or_last (ltb (size_at s at) 4) (not (eqb (size_at s at % 4) 0)) (ltb (length s - at) (size_at s at)) (not (fits (class_at s at) r (size_at s at)))
+
+    pub wrong-length : length_refused (size_at s at) (length s - at) ≡ true → object_verdict k s at ≡ refuse_if true 37 at
+    wrong-length w = wrong-size (size_split ∙ rw w refl)
+
+    pub size-left : length_refused (size_at s at) (length s - at) ≡ false → (b : Bool) → fits (class_at s at) r (size_at s at) ≡ b → size ≡ not b
+    size-left f b e = size_split ∙ rw (f, e) refl
 
     module _ (right : size ≡ false) where
       pub demanded-refused : unknown ≡ true → object_verdict k s at ≡ refuse_if true 38 at

@@ -10,7 +10,11 @@ use Rattle.pcep_message.specs.declared.objects.Object.{Object}
 use Rattle.pcep_message.specs.declared.objects.Objects.{Objects}
 use Rattle.pcep_message.specs.Known.{fits, class_if}
 
--- a wrong length, by what is left of the message
+-- a length that no object can have, by what is left of the message
+abbrev pub length_refused : ℕ → ℕ → Bool
+length_refused n left = ltb n 4 || (not (eqb (n % 4) 0) || ltb left n)
+
+-- or one that isn't the object's own
 abbrev pub size_refused : ℕ → Option ℕ → ℕ → ℕ → Bool
 size_refused c least n left = ltb n 4 || (not (eqb (n % 4) 0) || (ltb left n || not (fits c least n)))
 

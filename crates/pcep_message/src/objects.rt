@@ -1,10 +1,10 @@
 // A PCEP message's objects in turn, 37 and 38, with where the first one of each known class starts.
-ghost use Rattle.std.specs.Prelude.{◌≡◌, ◌≤◌, ◌<◌, ◌/◌, ◌%◌, ◌&&◌, eqb, length, Some};
-ghost use Rattle.std.specs.Option.{is_none, option_or};
+ghost use Rattle.std.specs.Prelude.{◌≡◌, ◌≤◌, ◌<◌, ◌/◌, ◌%◌, eqb, length, Some};
+ghost use Rattle.std.specs.Option.{option_or};
 ghost use Rattle.pcep_laws.specs.Firsts.{placed};
 ghost use Rattle.pcep_laws.specs.Table.{least_of};
-ghost use Rattle.pcep_message.specs.Known.{fits_known, class_if};
-ghost use Rattle.pcep_message.specs.Walked.{size_refused, ObjectIs, ObjectsAre, objects_met};
+ghost use Rattle.pcep_message.specs.Known.{fits_known};
+ghost use Rattle.pcep_message.specs.Walked.{length_refused, ObjectIs, ObjectsAre, objects_met};
 
 use model::{Reason, Refusal};
 use pcep_model::MessageKind;
@@ -31,57 +31,50 @@ const XRO: u8 = 17;
 fn least_of(kind: MessageKind, class: u8, form: u8) -> Option<usize>
     ensures { result ≡ placed (least_of kind class form) }
 {
-    if form != 1 {
-        return None;
-    }
     match kind {
-        MessageKind::Pcreq => match class {
-            RP => Some(12),
-            END_POINTS => Some(12),
-            BANDWIDTH => Some(8),
-            METRIC => Some(12),
-            IRO => Some(4),
-            XRO => Some(8),
+        MessageKind::Pcreq => match (class, form) {
+            (RP, 1) => Some(12),
+            (END_POINTS, 1) => Some(12),
+            (BANDWIDTH, 1) => Some(8),
+            (METRIC, 1) => Some(12),
+            (IRO, 1) => Some(4),
+            (XRO, 1) => Some(8),
             _ => None,
         },
-        MessageKind::Pcrep => match class {
-            RP => Some(12),
-            NO_PATH => Some(8),
-            METRIC => Some(12),
-            ERO => Some(4),
+        MessageKind::Pcrep => match (class, form) {
+            (RP, 1) => Some(12),
+            (NO_PATH, 1) => Some(8),
+            (METRIC, 1) => Some(12),
+            (ERO, 1) => Some(4),
             _ => None,
         },
     }
 }
 
-// A known object of this class can be n bytes long. Those that nothing can make longer have their least length alone.
+// A known object of this class can be n bytes long. Those that nothing can make longer have their least length alone. That length is tried first, since most objects
+// have it.
 fn fits(class: u8, least: usize, n: usize) -> bool
     ensures { result ≡ fits_known class least n }
 {
-    match class {
-        END_POINTS | BANDWIDTH | METRIC => n == least,
-        _ => least <= n,
-    }
+    n == least
+        || match class {
+            END_POINTS | BANDWIDTH | METRIC => false,
+            _ => least < n,
+        }
 }
 
-// A length under 4, not a multiple of 4, past what is left of the message, or not the object's own.
-fn size_wrong(class: u8, least: Option<usize>, n: usize, left: usize) -> bool
-    ensures { result ≡ size_refused class least n left }
+// A length under 4, not a multiple of 4, or past what is left of the message.
+fn size_wrong(n: usize, left: usize) -> bool
+    ensures { result ≡ length_refused n left }
 {
-    if n < 4 || n % 4 != 0 || left < n {
-        return true;
-    }
-    match least {
-        Some(own) => !fits(class, own, n),
-        None => false,
-    }
+    n < 4 || n % 4 != 0 || left < n
 }
 
-// An object that isn't known, by whose second byte P is set.
-fn demanded(least: Option<usize>, second: u8) -> bool
-    ensures { result ≡ (is_none least && eqb (second / 2 % 2) 1) }
+// P is set, by an object's second byte.
+fn demanded(second: u8) -> bool
+    ensures { result ≡ eqb (second / 2 % 2) 1 }
 {
-    least.is_none() && second / 2 % 2 == 1
+    second / 2 % 2 == 1
 }
 
 // An object that passes: its class, if it is known, and where the next one starts.
@@ -91,17 +84,8 @@ struct Object {
     next: usize,
 }
 
-// The class of an object that is known.
-fn class_known(class: u8, least: Option<usize>) -> Option<u8>
-    ensures { result ≡ class_if least class }
-{
-    match least {
-        Some(_) => Some(class),
-        None => None,
-    }
-}
-
-// The object at an offset.
+// The object at an offset. Its length is judged before what it is, so that what it is leads straight to its answer, with no test twice: a message may have thousands of
+// objects.
 fn object_at(kind: MessageKind, message: &[u8], at: usize) -> Result<Object, Refusal>
     requires { (at < length message.now) × (length message.now ≤ 65535) }
     ensures { ObjectIs kind message.now at result }
@@ -113,17 +97,27 @@ fn object_at(kind: MessageKind, message: &[u8], at: usize) -> Result<Object, Ref
     let class = message[at];
     let second = message[at + 1];
     let n = u16_at(message, at + 2) as usize;
-    let least = least_of(kind, class, second / 16);
-    if size_wrong(class, least, n, left) {
+    if size_wrong(n, left) {
         return Err(Refusal::new(Reason::WrongObject, at as u32));
     }
-    if demanded(least, second) {
-        return Err(Refusal::new(Reason::UnknownObject, at as u32));
+    let next = at + n;
+    match least_of(kind, class, second / 16) {
+        Some(least) => {
+            if !fits(class, least, n) {
+                return Err(Refusal::new(Reason::WrongObject, at as u32));
+            }
+            Ok(Object {
+                class: Some(class),
+                next,
+            })
+        }
+        None => {
+            if demanded(second) {
+                return Err(Refusal::new(Reason::UnknownObject, at as u32));
+            }
+            Ok(Object { class: None, next })
+        }
     }
-    Ok(Object {
-        class: class_known(class, least),
-        next: at + n,
-    })
 }
 
 // Where the first object of each class that is known in the message starts.
